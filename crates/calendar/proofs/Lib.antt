@@ -1,0 +1,7 @@
+mod Quotients
+mod Rounds
+mod Tables
+mod Counts
+mod Calendars
+mod SameDates
+pub mod Laws
