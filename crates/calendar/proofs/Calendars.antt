@@ -16,7 +16,7 @@ next-month : (year month : ℕ) → 0 < month → length-of-months (leap year) m
 unfolding days-before-month
 next-month year month h = more-months (leap year) month h
 
-pub some-days : (long : Bool) (month : ℕ) → 1 ≤ length-of-month long month
+pub some-days : (long : Bool) (month : ℕ) → 28 ≤ length-of-month long month
 some-days long month = grind (arith, tells)
 
 month-begins : (year month : ℕ) → days-before-month year (month + 1) ≡ length-of-months (leap year) month
@@ -35,7 +35,7 @@ pub few-days : (long : Bool) (month : ℕ) → length-of-month long month ≤ 31
 few-days long month = grind (arith, tells)
 
 -- the years before the next year
-next-year : (year : ℕ) → 2000 ≤ year → days-before-year (year + 1) ≡ days-before-year year + cond (leap year) 366 365
+pub next-year : (year : ℕ) → 2000 ≤ year → days-before-year (year + 1) ≡ days-before-year year + cond (leap year) 366 365
 unfolding days-before-year length-of-years
 next-year year h =
     let e : year + 1 - 2000 ≡ suc (year - 2000) = omega arith in
@@ -46,7 +46,7 @@ from-2000 : (k : ℕ) → k ≤ 100 → days-before-year (2000 + k) ≡ 365 * k 
 unfolding days-before-year
 from-2000 k h = ap length-of-years (omega arith) ∙ years-closed k h
 
-whole-year : (year : ℕ) → days-before-month year 13 ≡ cond (leap year) 366 365
+pub whole-year : (year : ℕ) → days-before-month year 13 ≡ cond (leap year) 366 365
 unfolding days-before-month
 whole-year year = all-months (leap year)
 
@@ -117,7 +117,7 @@ unfolding made
 same-days d e y m k = ap (λ (n : ℕ). made n (d .month) (d .day)) y ∙ ap (λ (n : ℕ). made (e .year) n (d .day)) m ∙ ap (made (e .year) (e .month)) k
 
 -- two days are in order, or the same
-by-order : {P : Type 0} (d e : Day) → (Earlier d e → P) → (Earlier e d → P) → (d ≡ e → P) → P
+pub by-order : {P : Type 0} (d e : Day) → (Earlier d e → P) → (Earlier e d → P) → (d ≡ e → P) → P
 by-order d e p q r =
     elim (cases-order (d .year) (e .year)) [
       | inl y ↦ elim (cases-order (d .month) (e .month)) [

@@ -4,4 +4,6 @@ mod Tables
 mod Counts
 mod Calendars
 mod SameDates
+mod DaysOfPlaces
+mod MonthsOfTerm
 pub mod Laws

@@ -21,6 +21,9 @@ lawful d = (d .«year_in_range», d .«month_in_range», d .«day_in_range»)
 made : (d : Day) × Lawful d → Date
 made (d, l) = record { year = d .year; month = d .month; day = d .day; «year_in_range» = l .0; «month_in_range» = l .1; «day_in_range» = l .2 }
 
+pub lawful-is : (w : Day) → lawful-test w ≡ true → Lawful w
+lawful-is w e = grind (arith, tells)
+
 lawful-true : (w : Day) → Lawful w → lawful-test w ≡ true
 lawful-true w l = grind (arith, tells)
 

@@ -1,5 +1,7 @@
 -- A date as a day of the calendar, its number, and what the calls that make dates answer.
-use Prim.Native.Nat.{ℕ, _+_, _<_, _≤_}
+use Prim.Native.Nat.{ℕ, _+_, _/_, _%_, _<_, _≤_}
+use mathlib.Core.List.{List, _∷_, _++_}
+use Rattle.std.specs.Written.{decimal}
 use mathlib.Core.Path.{_≡_}
 use mathlib.Core.Bool.{true, false}
 use Rattle.std.specs.declared.option.Option.{Option}
@@ -12,6 +14,11 @@ day-of d = record { year = d .year; month = d .month; day = d .day }
 
 abbrev pub number-of : Date → ℕ
 number-of d = day-number (day-of d)
+
+-- a date as text: the year, and month and day in two digits each, with hyphens (45) between
+abbrev pub date-text : Date → List ℕ
+date-text d =
+    decimal (d .year) ++ (45 ∷ (decimal (d .month / 10) ++ (decimal (d .month % 10) ++ (45 ∷ (decimal (d .day / 10) ++ decimal (d .day % 10))))))
 
 -- the date of a day, where the day is lawful
 abbrev pub Date-of-day : Day → Option Date → Type 0

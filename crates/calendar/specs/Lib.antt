@@ -1,3 +1,5 @@
 pub mod Rounding
 pub mod Days
 pub mod Dates
+pub mod Terms
+pub mod Months

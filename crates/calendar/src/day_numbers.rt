@@ -4,8 +4,12 @@ ghost use Prim.Native.Nat.{ℕ, _+_, _<_, _≤_};
 ghost use Rattle.std.specs.declared.option.Option.the-variants.{Some};
 ghost use Rattle.calendar.specs.declared.dates.Date.{Date as Dated};
 ghost use Rattle.calendar.specs.Days.{Within, leap, month-length, days-before-year, days-before-month, Day-laws};
-ghost use Rattle.calendar.specs.Dates.{number-of, Date-of-day, Date-of-number, Date-after, Date-laws};
+ghost use Rattle.calendar.specs.Dates.{number-of, date-text, Date-of-day, Date-of-number, Date-after, Date-laws};
 use crate::dates::Date;
+use std::fmt;
+use std::fmt::Display;
+use std::fmt::Formatter;
+use std::fmt::Write;
 
 // The number of 2099-12-31.
 const LAST_NUMBER: u16 = 36_524;
@@ -115,6 +119,23 @@ impl Date {
             return Date::of(self.year, self.month + 1, 1);
         }
         Date::of(self.year + 1, 1, 1)
+    }
+}
+
+// Year, month and day, as 2024-04-01.
+pub impl Display for Date as DateDisplay {
+    ghost shown = { λ d. Some (date-text d) };
+
+    fn fmt<W: Write>(&self, f: &mut Formatter<W>) -> Result<(), fmt::Error> {
+        let year = self.year;
+        write!(
+            f,
+            "{year}-{}{}-{}{}",
+            self.month / 10,
+            self.month % 10,
+            self.day / 10,
+            self.day % 10
+        )
     }
 }
 

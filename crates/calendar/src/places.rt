@@ -1,0 +1,94 @@
+// Terms made of a first day and a count of days, and their hours, intervals and days by place.
+ghost use mathlib.Core.Path.{_≡_};
+ghost use Prim.Native.Nat.{_+_, _<_};
+ghost use Rattle.calendar.specs.Days.{day-at};
+ghost use Rattle.calendar.specs.Dates.{day-of, number-of};
+ghost use Rattle.calendar.specs.Terms.{Term-of, fault-number, hours-of, intervals-of, day-of-place, last-number, Date-of-term-day, Term-laws};
+use crate::dates::Date;
+use crate::terms::Term;
+use crate::terms::TermFault;
+
+const HOURS_A_DAY: usize = 24;
+
+// An interval is 15 minutes.
+const INTERVALS_A_DAY: usize = 96;
+
+impl TermFault {
+    pub fn number(self) -> u8
+        ensures { λ r. ⌜ r ≡ fault-number self ⌝ }
+    {
+        match self {
+            TermFault::DateOrDays => 1,
+        }
+    }
+}
+
+impl Term {
+    // The term that begins on a day and has that many days, or fault 1.
+    pub fn of(year: u16, month: u8, day: u8, days: u8) -> Result<Term, TermFault>
+        ensures { λ r. ⌜ Term-of (record { first = record { year = year; month = month; day = day }; days = days }) r ⌝ }
+    {
+        let Some(first) = Date::of(year, month, day) else {
+            return Err(TermFault::DateOrDays);
+        };
+        if days < 1 || days > 92 || first.number() as u32 + days as u32 > 36_525 {
+            return Err(TermFault::DateOrDays);
+        }
+        Ok(Term { first, days })
+    }
+
+    pub fn hours(self) -> usize
+        ensures { λ r. ⌜ r ≡ hours-of self ⌝ }
+    {
+        HOURS_A_DAY * self.days as usize
+    }
+
+    pub fn intervals(self) -> usize
+        ensures { λ r. ⌜ r ≡ intervals-of self ⌝ }
+    {
+        INTERVALS_A_DAY * self.days as usize
+    }
+
+    // The day of the term in which an hour lies, or none past the term.
+    pub fn day_of_hour(self, hour: usize) -> Option<usize>
+        ensures { λ r. ⌜ r ≡ day-of-place 24 self hour ⌝ }
+    {
+        if hour >= self.hours() {
+            return None;
+        }
+        Some(hour / HOURS_A_DAY)
+    }
+
+    // The day of the term in which an interval lies, or none past the term.
+    pub fn day_of_interval(self, interval: usize) -> Option<usize>
+        ensures { λ r. ⌜ r ≡ day-of-place 96 self interval ⌝ }
+    {
+        if interval >= self.intervals() {
+            return None;
+        }
+        Some(interval / INTERVALS_A_DAY)
+    }
+
+    // The date of a day of the term, days counted from 0, or none past the term.
+    pub fn date(self, day: usize) -> Option<Date>
+        ensures { λ r. ⌜ Date-of-term-day self day r ⌝ }
+    {
+        if day >= self.days as usize {
+            return None;
+        }
+        Date::from_number(self.first.number() + day as u16)
+    }
+
+    // The date of the last day.
+    pub fn last(self) -> Date
+        ensures day { λ r. ⌜ day-of r ≡ day-at (last-number self) ⌝ }
+        ensures number { λ r. ⌜ number-of r ≡ last-number self ⌝ }
+    {
+        Date::from_number(self.first.number() + (self.days - 1) as u16).unwrap()
+    }
+}
+
+// Holds the laws of a term's places: the places of a day follow one another, and so do the days.
+pub fn term_laws()
+    ensures { λ _. ⌜ Term-laws ⌝ }
+{}
