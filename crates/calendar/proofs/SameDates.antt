@@ -11,7 +11,7 @@ use Rattle.std.specs.declared.option.Option.the-variants.{Some, None}
 use Rattle.std.proofs.shelf.Tests.{both-ways, cases-eq}
 use Rattle.std.proofs.shelf.Ways.{tells}
 use Rattle.calendar.specs.declared.dates.Date.{Date}
-use Rattle.calendar.specs.Days.{Day, Lawful, lawful as lawful-test, day-after, day-at, day-number}
+use Rattle.calendar.specs.Days.{Day, Lawful, lawful as lawful-test, calendar-days, day-after, day-at, day-number}
 use Rattle.calendar.specs.Dates.{day-of, number-of, Date-of-day, Date-of-number, Date-after, Date-laws}
 use Rattle.calendar.proofs.Calendars.{after-lawful, day-laws}
 
@@ -45,7 +45,7 @@ date-laws = record {
 -- a date made of the day after is the date after
 pub after-is : (d : Date) (w : Day) (r : Option Date) → day-after (day-of d) ≡ w → Date-of-day w r → Date-after d r
 after-is d w None h f =
-    elim (cases-eq (number-of d) 36524) [
+    elim (cases-eq (number-of d + 1) calendar-days) [
       | inl last ↦ last
       | inr other ↦ absurd (both-ways (lawful-test w) f (lawful-true w (subst Lawful h (after-lawful (day-of d) (lawful d) (omega (arith, day-laws .number-below (day-of d) (lawful d)))))))
     ]

@@ -7,7 +7,7 @@ use mathlib.Core.Bool.{true, false}
 use Rattle.std.specs.declared.option.Option.{Option}
 use Rattle.std.specs.declared.option.Option.the-variants.{Some, None}
 use Rattle.calendar.specs.declared.dates.Date.{Date}
-use Rattle.calendar.specs.Days.{Day, Lawful, lawful, day-after, day-at, day-number}
+use Rattle.calendar.specs.Days.{Day, Lawful, lawful, calendar-days, day-after, day-at, day-number}
 
 abbrev pub day-of : Date → Day
 day-of d = record { year = d .year; month = d .month; day = d .day }
@@ -27,18 +27,18 @@ Date-of-day w (Some d) = (lawful w ≡ true) × (day-of d ≡ w)
 
 -- the date of the day counted n, up to 2099-12-31
 abbrev pub Date-of-number : ℕ → Option Date → Type 0
-Date-of-number n None = 36525 ≤ n
-Date-of-number n (Some d) = (n < 36525) × (day-of d ≡ day-at n) × (number-of d ≡ n)
+Date-of-number n None = calendar-days ≤ n
+Date-of-number n (Some d) = (n < calendar-days) × (day-of d ≡ day-at n) × (number-of d ≡ n)
 
 -- the date after, which none has that is the last
 abbrev pub Date-after : Date → Option Date → Type 0
-Date-after d None = number-of d ≡ 36524
+Date-after d None = number-of d + 1 ≡ calendar-days
 Date-after d (Some e) = (day-of e ≡ day-after (day-of d)) × (number-of e ≡ number-of d + 1)
 
 -- Dates with equal days, or equal numbers, are equal: with the laws of days, dates and the numbers below 36525 match
 -- one to one, in order.
 pub record Date-laws : Type 0 where
   pub lawful : (d : Date) → Lawful (day-of d)
-  pub number-below : (d : Date) → number-of d < 36525
+  pub number-below : (d : Date) → number-of d < calendar-days
   pub same-day : (d e : Date) → day-of d ≡ day-of e → d ≡ e
   pub same-number : (d e : Date) → number-of d ≡ number-of e → d ≡ e

@@ -5,6 +5,10 @@ use mathlib.Core.Bool.{Bool, true, false, cond, not, _&&_, _||_}
 use mathlib.Core.Logic.{_⊎_}
 use lib.Dec.{leb, ltb, eqb}
 
+-- days from 2000-01-01 to 2099-12-31
+abbrev pub calendar-days : ℕ
+calendar-days = 36525
+
 -- low ≤ n ≤ high, as a fact and as a test
 abbrev pub Within : ℕ → ℕ → ℕ → Type 0
 Within low high n = (low ≤ n) × (n ≤ high)
@@ -47,7 +51,7 @@ day-after d =
     (record { year = d .year; month = d .month + 1; day = 1 })
     (record { year = d .year + 1; month = 1; day = 1 }))
 
--- Days counted: day 0 is 2000-01-01, and each next number is the day after. Day 36524 is 2099-12-31.
+-- Days counted: day 0 is 2000-01-01, and each next number is the day after.
 unfoldable pub day-at : ℕ → Day
 day-at zero = record { year = 2000; month = 1; day = 1 }
 day-at (suc n) = day-after (day-at n)
@@ -82,10 +86,10 @@ day-number d = days-before-year (d .year) + days-before-month (d .year) (d .mont
 -- number-at, at-number: number and day are each other's inverse. after: the day after has the next number.
 -- same: equal numbers are of equal days. earlier, numbers-earlier: order of days is order of numbers.
 pub record Day-laws : Type 0 where
-  pub lawful-at : (n : ℕ) → n < 36525 → Lawful (day-at n)
-  pub number-at : (n : ℕ) → n < 36525 → day-number (day-at n) ≡ n
+  pub lawful-at : (n : ℕ) → n < calendar-days → Lawful (day-at n)
+  pub number-at : (n : ℕ) → n < calendar-days → day-number (day-at n) ≡ n
   pub at-number : (d : Day) → Lawful d → day-at (day-number d) ≡ d
-  pub number-below : (d : Day) → Lawful d → day-number d < 36525
+  pub number-below : (d : Day) → Lawful d → day-number d < calendar-days
   pub after : (d : Day) → Lawful d → day-number (day-after d) ≡ day-number d + 1
   pub same : (d e : Day) → Lawful d → Lawful e → day-number d ≡ day-number e → d ≡ e
   pub earlier : (d e : Day) → Lawful d → Lawful e → Earlier d e → day-number d < day-number e

@@ -11,7 +11,7 @@ use Rattle.calendar.specs.declared.dates.Date.{Date}
 use Rattle.calendar.specs.declared.terms.Term.{Term}
 use Rattle.calendar.specs.declared.terms.TermFault.{TermFault}
 use Rattle.calendar.specs.declared.terms.TermFault.the-variants.{DateOrDays}
-use Rattle.calendar.specs.Days.{Day, within, lawful, day-at, day-number}
+use Rattle.calendar.specs.Days.{Day, within, lawful, calendar-days, day-at, day-number}
 use Rattle.calendar.specs.Dates.{day-of, number-of}
 
 -- A term as it is asked for.
@@ -22,9 +22,9 @@ pub record Term-draft : Type 0 where
 abbrev pub draft-of : Term → Term-draft
 draft-of t = record { first = day-of (t .first); days = t .days }
 
--- a lawful first day, 1 to 92 days, and the last of them not after 2099-12-31, day 36524
+-- a lawful first day, 1 to 92 days, and the last of them not after 2099-12-31
 abbrev pub lawful-term : Term-draft → Bool
-lawful-term t = lawful (t .first) && (within 1 92 (t .days) && leb (day-number (t .first) + t .days) 36525)
+lawful-term t = lawful (t .first) && (within 1 92 (t .days) && leb (day-number (t .first) + t .days) calendar-days)
 
 abbrev pub first-fault : Term-draft → Option TermFault
 first-fault t = cond (lawful-term t) None (Some DateOrDays)
@@ -46,6 +46,12 @@ intervals-of t = 96 * t .days
 -- the day of the term in which a place lies, where a day has that many places
 abbrev pub day-of-place : ℕ → Term → ℕ → Option ℕ
 day-of-place places t place = cond (ltb place (places * t .days)) (Some (place / places)) None
+
+abbrev pub day-of-hour : Term → ℕ → Option ℕ
+day-of-hour = day-of-place 24
+
+abbrev pub day-of-interval : Term → ℕ → Option ℕ
+day-of-interval = day-of-place 96
 
 -- the number of the first day and of the last
 abbrev pub first-number : Term → ℕ

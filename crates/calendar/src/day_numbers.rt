@@ -3,7 +3,7 @@ ghost use mathlib.Core.Path.{_≡_};
 ghost use Prim.Native.Nat.{ℕ, _+_, _<_, _≤_};
 ghost use Rattle.std.specs.declared.option.Option.the-variants.{Some};
 ghost use Rattle.calendar.specs.declared.dates.Date.{Date as Dated};
-ghost use Rattle.calendar.specs.Days.{Within, leap, month-length, days-before-year, days-before-month, Day-laws};
+ghost use Rattle.calendar.specs.Days.{Within, calendar-days, leap, month-length, days-before-year, days-before-month, Day-laws};
 ghost use Rattle.calendar.specs.Dates.{number-of, date-text, Date-of-day, Date-of-number, Date-after, Date-laws};
 use crate::dates::Date;
 use std::fmt;
@@ -11,8 +11,8 @@ use std::fmt::Display;
 use std::fmt::Formatter;
 use std::fmt::Write;
 
-// The number of 2099-12-31.
-const LAST_NUMBER: u16 = 36_524;
+// Days from 2000-01-01 to 2099-12-31.
+pub(crate) const CALENDAR_DAYS: u16 = 36_525;
 
 // Days before each month of a common year.
 const DAYS_BEFORE_MONTH: [u16; 12] = [0, 31, 59, 90, 120, 151, 181, 212, 243, 273, 304, 334];
@@ -86,7 +86,8 @@ impl Date {
 
     // Days since 2000-01-01.
     pub fn number(self) -> u16
-        ensures { λ r. ⌜ r ≡ number-of self ⌝ }
+        ensures value { λ r. ⌜ r ≡ number-of self ⌝ }
+        ensures bound { λ r. ⌜ r < calendar-days ⌝ }
     {
         days_before_year(self.year)
             + days_before_month(self.year, self.month)
@@ -98,7 +99,7 @@ impl Date {
         ensures day { λ r. ⌜ Date-of-number number r ⌝ }
         ensures back { λ r. ⌜ ((d : Dated) → number-of d ≡ number → r ≡ Some d) ⌝ }
     {
-        if number > LAST_NUMBER {
+        if number >= CALENDAR_DAYS {
             return None;
         }
         let year = 2000 + (4 * number as u32 / 1461) as u16;

@@ -3,8 +3,9 @@ ghost use mathlib.Core.Path.{_≡_};
 ghost use Prim.Native.Nat.{_+_, _<_};
 ghost use Rattle.calendar.specs.Days.{day-at};
 ghost use Rattle.calendar.specs.Dates.{day-of, number-of};
-ghost use Rattle.calendar.specs.Terms.{Term-of, fault-number, hours-of, intervals-of, day-of-place, last-number, Date-of-term-day, Term-laws};
+ghost use Rattle.calendar.specs.Terms.{Term-of, fault-number, hours-of, intervals-of, day-of-hour, day-of-interval, last-number, Date-of-term-day, Term-laws};
 use crate::dates::Date;
+use crate::day_numbers::CALENDAR_DAYS;
 use crate::terms::Term;
 use crate::terms::TermFault;
 
@@ -31,7 +32,7 @@ impl Term {
         let Some(first) = Date::of(year, month, day) else {
             return Err(TermFault::DateOrDays);
         };
-        if days < 1 || days > 92 || first.number() as u32 + days as u32 > 36_525 {
+        if days < 1 || days > 92 || first.number() + days as u16 > CALENDAR_DAYS {
             return Err(TermFault::DateOrDays);
         }
         Ok(Term { first, days })
@@ -51,7 +52,7 @@ impl Term {
 
     // The day of the term in which an hour lies, or none past the term.
     pub fn day_of_hour(self, hour: usize) -> Option<usize>
-        ensures { λ r. ⌜ r ≡ day-of-place 24 self hour ⌝ }
+        ensures { λ r. ⌜ r ≡ day-of-hour self hour ⌝ }
     {
         if hour >= self.hours() {
             return None;
@@ -61,7 +62,7 @@ impl Term {
 
     // The day of the term in which an interval lies, or none past the term.
     pub fn day_of_interval(self, interval: usize) -> Option<usize>
-        ensures { λ r. ⌜ r ≡ day-of-place 96 self interval ⌝ }
+        ensures { λ r. ⌜ r ≡ day-of-interval self interval ⌝ }
     {
         if interval >= self.intervals() {
             return None;

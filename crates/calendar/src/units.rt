@@ -13,19 +13,19 @@ use std::ops::Add;
 pub struct Grams(pub u64);
 
 // Kilograms: 32 bits as weighed, 64 bits where grams are converted.
-#[derive(Clone, Copy, PartialEq, Eq, PartialOrd, Ord, Debug)]
+#[derive(Clone, Copy, PartialEq, Eq, Debug)]
 pub struct Kilograms<Number = u32>(pub Number);
 
 // Pascals: 16 bits and signed for a static pressure as read, 32 bits where an air pressure is converted.
-#[derive(Clone, Copy, PartialEq, Eq, PartialOrd, Ord, Debug)]
+#[derive(Clone, Copy, PartialEq, Eq, Debug)]
 pub struct Pascals<Number = i16>(pub Number);
 
 // Hundreds of pascals: an air pressure as read.
-#[derive(Clone, Copy, PartialEq, Eq, PartialOrd, Ord, Debug)]
+#[derive(Clone, Copy, PartialEq, Eq, Debug)]
 pub struct Hectopascals(pub u16);
 
 // Tenths of a degree Celsius, signed.
-#[derive(Clone, Copy, PartialEq, Eq, PartialOrd, Ord, Debug)]
+#[derive(Clone, Copy, PartialEq, Eq, Debug)]
 pub struct TenthsCelsius(pub i16);
 
 // A sum of grams takes grams only. As for `+` on integers, whoever adds shows that the sum fits.

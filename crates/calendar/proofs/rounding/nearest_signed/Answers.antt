@@ -5,25 +5,16 @@ use mir.Syntax.{w64, w128}
 use mir.Val.{SFits, toZ, ofZ}
 use lib.IntN.{ℤ, pos, _+ℤ_, _*ℤ_}
 use Rattle.std.specs.NonZero.{of-u64}
-use Rattle.std.proofs.shelf.Signed.{ints}
+use Rattle.std.proofs.shelf.Signed.{ints, toZ-ofZ}
 use Rattle.calendar.specs.Rounding.{nearest-ℤ}
 use Rattle.calendar.proofs.Quotients.{euclid-floors}
 use Rattle.calendar.proofs.Rounds.{nearest-fits}
 use Rattle.calendar.proofs.rounding.nearest_signed.Needs as need
 
--- a number that went to 128 bits and is read again
-abbrev wide : ℤ → ℤ
-wide z = toZ w128 (ofZ w128 z)
-
 -- what `div_euclid` answered
 quotient : (c : need.After-div-euclid) → c .div-euclid .result ≡ nearest-ℤ (c .args .a) (of-u64 (c .args .b))
 unfolding nearest-ℤ
-quotient c =
-    c .div-euclid .ensures ∙ euclid-floors
-    (wide (wide (pos 2 *ℤ wide (toZ w64 (ofZ w64 (c .args .a)))) +ℤ toZ w128 (c .get-divisor .result)))
-    (pos 2 *ℤ c .args .a +ℤ pos (of-u64 (c .args .b)))
-    (wide (pos 2 *ℤ toZ w128 (c .get-divisor .result)))
-    (2 * of-u64 (c .args .b)) (omega (arith, ints)) (omega (arith, ints))
+quotient c = grind (arith, ints, toZ-ofZ, euclid-floors)
 
 within : (c : need.After-div-euclid) → SFits w64 (c .div-euclid .result)
 within c =

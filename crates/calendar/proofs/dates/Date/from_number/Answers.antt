@@ -10,8 +10,8 @@ use Rattle.calendar.proofs.dates.Date.from_number.Needs as need
 abbrev year : ℕ → ℕ
 year n = 2000 + 4 * n / 1461
 
-pub returns-then-number-gt-LAST-NUMBER : need.returns-then-number-gt-LAST-NUMBER
-returns-then-number-gt-LAST-NUMBER c = record { day = omega arith; back = number-only (c .args .number) None (omega arith) }
+pub returns-then-number-ge-CALENDAR-DAYS : need.returns-then-number-ge-CALENDAR-DAYS
+returns-then-number-ge-CALENDAR-DAYS c = record { day = omega arith; back = number-only (c .args .number) None (omega arith) }
 
 pub sub-day-of-year : need.sub-day-of-year
 sub-day-of-year c = omega (arith, year-found (c .args .number) (omega arith))

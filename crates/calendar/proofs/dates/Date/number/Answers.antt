@@ -14,4 +14,4 @@ add-result-2 c = omega (arith, date-laws .number-below (c .args .self))
 
 pub returns : need.returns
 unfolding day-number
-returns c = omega arith
+returns c = record { value = omega arith; bound = omega (arith, date-laws .number-below (c .args .self)) }
