@@ -1,19 +1,18 @@
 -- The months of a term, by the day on which each month begins.
 use Prim.Native.Nat.{ℕ, zero, suc, _+_, _-_, _*_, _/_, _%_, _<_, _≤_}
-use mathlib.Core.Path.{_≡_, refl, ap, sym, subst, _∙_}
-use mathlib.Core.Bool.{true, false, cond}
+use mathlib.Core.Path.{_≡_, ap, sym, subst, _∙_}
+use mathlib.Core.Bool.{true}
 use mathlib.Core.Logic.{inl, inr}
 use native.Mathlib.Omega.{arith}
-use native.Mathlib.Nat.{add-zero, mul-suc}
+use native.Mathlib.Nat.{add-zero}
 use lib.Dec.{leb, ltb}
 use Rattle.std.specs.declared.option.Option.the-variants.{Some, None}
 use Rattle.std.proofs.shelf.Tests.{and-from, and-parts, cases-bool, cases-lt, cond-false, cond-true, le-leb, leb-true, lt-ltb, ltb-true}
-use Rattle.std.proofs.shelf.Ways.{tells}
 use Rattle.calendar.specs.declared.terms.Term.{Term}
 use Rattle.calendar.specs.declared.months.Month.{Month}
 use Rattle.calendar.specs.declared.months.MonthSpan.{MonthSpan}
-use Rattle.calendar.specs.Days.{Day, Within, Lawful, leap, month-length, lawful, day-at, day-number, days-before-year, days-before-month}
-use Rattle.calendar.specs.Dates.{day-of, number-of}
+use Rattle.calendar.specs.Days.{Day, Within, Lawful, leap, month-length, lawful, day-at, day-number, days-before-year}
+use Rattle.calendar.specs.Dates.{day-of}
 use Rattle.calendar.specs.Terms.{first-number, last-number}
 use Rattle.calendar.specs.Months.{month-index, month-counted, touched-months, touched-month, first-of-month, whole-in-term, month-span, Touches, Holds-month, Month-laws}
 use Rattle.calendar.proofs.Calendars.{by-order, day-laws, january, month-over, next-year, some-days, whole-year}

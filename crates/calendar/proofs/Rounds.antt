@@ -1,6 +1,6 @@
 -- The laws of rounding.
 use Prim.Native.Nat.{ℕ, zero, suc, _+_, _*_, _/_, _%_, _<_, _≤_, min}
-use mathlib.Core.Path.{_≡_, refl, ap, sym, _∙_, subst}
+use mathlib.Core.Path.{_≡_, refl, ap, subst}
 use native.Mathlib.Omega.{arith}
 use native.Mathlib.Nat.{add-zero, div-add-mod, le-antisymm, le-of-mul-le-mul-left, lt-of-mul-lt-mul-left, mul-assoc, mul-comm, mul-le-mul-left, mul-suc}
 use lib.IntN.{ℤ, pos, negsuc, natAbs, _+ℤ_, _*ℤ_, negℤ}
@@ -10,7 +10,7 @@ use mir.Val.{SFits}
 use Rattle.std.proofs.shelf.Bits.{mod-below}
 use Rattle.std.proofs.shelf.Signed.{ints}
 use Rattle.calendar.specs.Rounding.{floored, nearest-ℤ, nearest-ℕ, round-up-ℤ, round-up-ℕ, Nearest-laws, Half-goes-up, Round-up-laws}
-use Rattle.calendar.proofs.Quotients.{quotient-only, floored-is, floored-only, floored-grows, floored-most, mul-neg}
+use Rattle.calendar.proofs.Quotients.{floored-is, floored-only, floored-grows, floored-most, mul-neg}
 
 twice : (b : ℕ) (r : ℤ) → pos (2 * b) *ℤ r ≡ pos 2 *ℤ (pos b *ℤ r)
 twice b (pos q) = ap pos (mul-assoc 2 b q)

@@ -1,7 +1,7 @@
 -- Dates with equal days are equal, and what the calls that make dates answer.
-use Prim.Native.Nat.{ℕ, _+_, _<_, _≤_}
-use mathlib.Core.Path.{_≡_, refl, ap, sym, _∙_, subst}
-use mathlib.Core.Bool.{true, false}
+use Prim.Native.Nat.{ℕ, _+_}
+use mathlib.Core.Path.{_≡_, ap, sym, _∙_, subst}
+use mathlib.Core.Bool.{true}
 use mathlib.Core.Logic.{inl, inr}
 use mathlib.Core.HLevel.{×-prop, ×₃-prop, Σ-prop-path}
 use native.Mathlib.Omega.{arith}

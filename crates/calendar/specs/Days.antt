@@ -1,7 +1,7 @@
 -- The calendar in whole numbers, from 2000-01-01 on: leap years, lengths of months, the day after a day, and day numbers.
-use Prim.Native.Nat.{ℕ, zero, suc, _+_, _-_, _*_, _%_, _<_, _≤_}
+use Prim.Native.Nat.{ℕ, zero, suc, _+_, _-_, _%_, _<_, _≤_}
 use mathlib.Core.Path.{_≡_}
-use mathlib.Core.Bool.{Bool, true, false, cond, not, _&&_, _||_}
+use mathlib.Core.Bool.{Bool, true, cond, not, _&&_, _||_}
 use mathlib.Core.Logic.{_⊎_}
 use lib.Dec.{leb, ltb, eqb}
 

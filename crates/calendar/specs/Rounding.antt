@@ -4,19 +4,19 @@ use mathlib.Core.Path.{_≡_}
 use lib.IntN.{ℤ, pos, negsuc, natAbs, negℤ, _+ℤ_, _*ℤ_}
 use lib.Signed.{_≤ℤ_, _<ℤ_}
 
--- the largest whole number not above a / b
+-- a / b rounded down, below zero too
 unfoldable pub floored : ℤ → ℕ → ℤ
 floored (pos a) b = pos (a / b)
 floored (negsuc a) b = negsuc (a / b)
 
--- the whole number nearest to a / b: the largest not above (2a + b) / 2b, so that a half goes up, below zero too
+-- a / b rounded to the nearest: (2a + b) / 2b rounded down, so that a half goes up, below zero too
 unfoldable pub nearest-ℤ : ℤ → ℕ → ℤ
 nearest-ℤ a b = floored (pos 2 *ℤ a +ℤ pos b) (2 * b)
 
 unfoldable pub nearest-ℕ : ℕ → ℕ → ℕ
 nearest-ℕ a b = natAbs (nearest-ℤ (pos a) b)
 
--- the smallest whole number not below a / b
+-- a / b rounded up
 unfoldable pub round-up-ℤ : ℤ → ℕ → ℤ
 round-up-ℤ a b = negℤ (floored (negℤ a) b)
 

@@ -1,10 +1,10 @@
 // Dates made of year, month and day, and their numbers: days counted from 2000-01-01 as 0.
 ghost use mathlib.Core.Path.{_≡_};
-ghost use Prim.Native.Nat.{ℕ, _+_, _<_, _≤_};
 ghost use Rattle.std.specs.declared.option.Option.the-variants.{Some};
 ghost use Rattle.calendar.specs.declared.dates.Date.{Date as Dated};
 ghost use Rattle.calendar.specs.Days.{Within, calendar-days, leap, month-length, days-before-year, days-before-month, Day-laws};
 ghost use Rattle.calendar.specs.Dates.{number-of, date-text, Date-of-day, Date-of-number, Date-after, Date-laws};
+ghost use Prim.Native.Nat.{_+_, _<_, _≤_};
 use crate::dates::Date;
 use std::fmt;
 use std::fmt::Display;

@@ -1,6 +1,5 @@
 // Terms made of a first day and a count of days, and their hours, intervals and days by place.
 ghost use mathlib.Core.Path.{_≡_};
-ghost use Prim.Native.Nat.{_+_, _<_};
 ghost use Rattle.calendar.specs.Days.{day-at};
 ghost use Rattle.calendar.specs.Dates.{day-of, number-of};
 ghost use Rattle.calendar.specs.Terms.{Term-of, fault-number, hours-of, intervals-of, day-of-hour, day-of-interval, last-number, Date-of-term-day, Term-laws};

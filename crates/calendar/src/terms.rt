@@ -1,7 +1,7 @@
 // A term: the days that one book covers.
-ghost use Prim.Native.Nat.{_+_, _≤_};
 ghost use Rattle.calendar.specs.Days.{Within, calendar-days};
 ghost use Rattle.calendar.specs.Dates.{number-of};
+ghost use Prim.Native.Nat.{_+_, _≤_};
 use crate::dates::Date;
 use crate::dates::DateDebug;
 use crate::dates::DateEq;

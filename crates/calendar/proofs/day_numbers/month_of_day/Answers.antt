@@ -1,4 +1,3 @@
-use Prim.Native.Nat.{zero}
 use native.Mathlib.Omega.{arith}
 use Rattle.calendar.proofs.Calendars.{january}
 use Rattle.calendar.proofs.day_numbers.month_of_day.Needs as need

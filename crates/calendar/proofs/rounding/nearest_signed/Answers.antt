@@ -1,9 +1,8 @@
-use mathlib.Core.Path.{_≡_, sym, _∙_, subst}
-use Prim.Native.Nat.{ℕ, _*_}
+use mathlib.Core.Path.{_≡_, sym, subst}
 use native.Mathlib.Omega.{arith}
-use mir.Syntax.{w64, w128}
-use mir.Val.{SFits, toZ, ofZ}
-use lib.IntN.{ℤ, pos, _+ℤ_, _*ℤ_}
+use mir.Syntax.{w64}
+use mir.Val.{SFits}
+use lib.IntN.{ℤ}
 use Rattle.std.specs.NonZero.{of-u64}
 use Rattle.std.proofs.shelf.Signed.{ints, toZ-ofZ}
 use Rattle.calendar.specs.Rounding.{nearest-ℤ}

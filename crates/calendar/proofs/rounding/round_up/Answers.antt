@@ -1,6 +1,3 @@
-use mathlib.Core.Path.{_≡_}
-use Rattle.std.specs.NonZero.{of-u64}
-use Rattle.calendar.specs.Rounding.{round-up-ℕ}
 use Rattle.calendar.proofs.Rounds.{ceil-rounds-up}
 use Rattle.calendar.proofs.rounding.round_up.Needs as need
 

@@ -1,4 +1,3 @@
-use mathlib.Core.Path.{_≡_}
 use native.Mathlib.Omega.{arith}
 use Rattle.calendar.specs.Days.{day-number}
 use Rattle.calendar.proofs.Laws.{date-laws}
