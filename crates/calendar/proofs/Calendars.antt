@@ -8,16 +8,17 @@ use native.Mathlib.Omega.{arith}
 use lib.Dec.{ltb}
 use Rattle.std.proofs.shelf.Tests.{cases-order, cond-both, ltb-true, ltb-false}
 use Rattle.std.proofs.shelf.Ways.{tells}
-use Rattle.calendar.specs.Days.{Day, Lawful, Earlier, leap, month-length, length-of-month, length-of-months, length-of-years, days-before-year, days-before-month, day-number, day-after, day-at, Day-laws}
+use Rattle.calendar.specs.Days.{Day, Lawful, Earlier, calendar-days, leap, month-length, length-of-month, length-of-months, length-of-years, days-before-year, days-before-month, day-number, day-after, day-at, Day-laws}
 use Rattle.calendar.proofs.Counts.{years-closed, years-grow, more-months, all-months, months-grow}
 
 -- the months before the next month
 next-month : (year month : ℕ) → 0 < month → length-of-months (leap year) month ≡ days-before-month year month + month-length year month
-unfolding days-before-month
+unfolding days-before-month month-length
 next-month year month h = more-months (leap year) month h
 
-pub some-days : (long : Bool) (month : ℕ) → 28 ≤ length-of-month long month
-some-days long month = grind (arith, tells)
+pub some-days : (year month : ℕ) → 28 ≤ month-length year month
+unfolding month-length
+some-days year month = grind (arith, tells)
 
 month-begins : (year month : ℕ) → days-before-month year (month + 1) ≡ length-of-months (leap year) month
 unfolding days-before-month
@@ -31,8 +32,9 @@ january year = refl
 pub month-over : (year month : ℕ) → 0 < month → days-before-month year (month + 1) ≡ days-before-month year month + month-length year month
 month-over year month h = month-begins year month ∙ next-month year month h
 
-pub few-days : (long : Bool) (month : ℕ) → length-of-month long month ≤ 31
-few-days long month = grind (arith, tells)
+pub few-days : (year month : ℕ) → month-length year month ≤ 31
+unfolding month-length
+few-days year month = grind (arith, tells)
 
 -- the years before the next year
 pub next-year : (year : ℕ) → 2000 ≤ year → days-before-year (year + 1) ≡ days-before-year year + cond (leap year) 366 365
@@ -90,10 +92,10 @@ module _ (d : Day) (l : Lawful d) where
       cond-both (ltb (d .day) (month-length (d .year) (d .month))) _ _ (λ (e : Day). Lawful e)
       (λ t. omega (arith, ltb-true))
       (λ f. cond-both (ltb (d .month) 12) _ _ (λ (e : Day). Lawful e)
-      (λ t. omega (arith, ltb-true, some-days (leap (d .year)) (d .month + 1)))
+      (λ t. omega (arith, ltb-true, some-days (d .year) (d .month + 1)))
       (λ g.
       let e : d .month ≡ 12 = omega (arith, ltb-false) in
-      omega (arith, ltb-false, next-year (d .year) (omega arith), next-month (d .year) (d .month) (omega arith), ap (length-of-months (leap (d .year))) e, all-months (leap (d .year)), years-closed (d .year + 1 - 2000) (omega arith))))
+      omega (arith, ltb-false, next-year (d .year) (omega arith), next-month (d .year) (d .month) (omega arith), ap (length-of-months (leap (d .year))) e, all-months (leap (d .year)), years-closed (d .year + 1 - 2000) (omega arith), some-days (d .year + 1) 1)))
 
   below : day-number d < 36525
   unfolding days-before-year
@@ -144,16 +146,21 @@ numbers-earlier d e l m h =
 -- counting on from 2000-01-01 one comes to a lawful day with that number
 counted : (n : ℕ) → n < 36525 → Lawful (day-at n) × (day-number (day-at n) ≡ n)
 unfolding day-at day-number days-before-year days-before-month length-of-years length-of-months
-counted zero h = (omega arith, refl)
+counted zero h = (omega (arith, some-days 2000 1), refl)
 counted (suc n) h =
     let p = counted n (omega arith) in
     (after-lawful (day-at n) (p .0) (omega arith), omega (arith, after (day-at n) (p .0)))
+
+last : day-number (record { year = 2099; month = 12; day = 31 }) + 1 ≡ calendar-days
+unfolding day-number days-before-year days-before-month length-of-months
+last = omega (arith, years-closed 99 (omega arith))
 
 pub day-laws : Day-laws
 day-laws = record {
   lawful-at = λ n h. counted n h .0;
   number-at = λ n h. counted n h .1;
   at-number = λ d l. let p = counted (day-number d) (below d l) in same (day-at (day-number d)) d (p .0) l (p .1);
+  last = last;
   number-below = below;
   after = after;
   same = same;

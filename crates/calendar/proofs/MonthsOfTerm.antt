@@ -43,7 +43,7 @@ begins-grow i zero = rw (add-zero i) (omega arith)
 begins-grow i (suc k) =
     let n : ℕ = i + k in
     let e : begin (i + suc k) ≡ begin (n + 1) = ap begin (omega arith) in
-    omega (arith, begins-grow i k, begin-next n, some-days (leap (2000 + n / 12)) (n % 12 + 1))
+    omega (arith, begins-grow i k, begin-next n, some-days (2000 + n / 12) (n % 12 + 1))
 
 -- days of a month follow its first
 day-in-month : (year month day : ℕ) → day-number (record { year = year; month = month; day = day }) ≡ day-number (first-of-month year month) + (day - 1)
@@ -128,6 +128,7 @@ module _ (t : Term) where
       ]
 
   pub one-to-five : Within 1 5 (touched-months t)
+  unfolding touched-months
   one-to-five = (omega (arith, in-order), omega (arith, few-months))
 
   -- a month after the first is touched on its first day
@@ -137,7 +138,7 @@ module _ (t : Term) where
       let i = month-index (day-of (t .first)) in
       let j = month-index (day-at (last-number t)) in
       let w : Day = first-of-month (2000 + n / 12) (n % 12 + 1) in
-      let lawful-w : Lawful w = omega (arith, last-lawful, some-days (leap (2000 + n / 12)) (n % 12 + 1)) in
+      let lawful-w : Lawful w = omega (arith, last-lawful, some-days (2000 + n / 12) (n % 12 + 1)) in
       let e : begin (i + 1 + (n - (i + 1))) ≡ begin n = ap begin (omega arith) in
       let f : begin (n + (j - n)) ≡ begin j = ap begin (omega arith) in
       let after : first-number t < day-number w = omega (arith, e, begins-grow (i + 1) (n - (i + 1)), in-its-month (day-of (t .first)) first-lawful) in
@@ -146,12 +147,14 @@ module _ (t : Term) where
       (day-number w - first-number t, omega arith, ap (λ (d : Day). d .year) here, ap (λ (d : Day). d .month) here)
 
   touched-at : (place : ℕ) → place < touched-months t → Touches t (2000 + (month-index (day-of (t .first)) + place) / 12) ((month-index (day-of (t .first)) + place) % 12 + 1)
+  unfolding touched-months
   touched-at zero h =
       let here : day-at (first-number t + 0) ≡ day-of (t .first) = ap day-at (add-zero (first-number t)) ∙ day-laws .at-number (day-of (t .first)) first-lawful in
       (0, omega arith, omega (arith, ap (λ (d : Day). d .year) here), omega (arith, ap (λ (d : Day). d .month) here))
   touched-at (suc p) h = month-begins-in (month-index (day-of (t .first)) + suc p) (omega arith) (omega arith)
 
   touched : (place : ℕ) (m : Month) → touched-month t place ≡ Some m → Touches t (m .year) (m .month)
+  unfolding touched-month
   touched place m e =
       let n = month-counted (month-index (day-of (t .first)) + place) in
       elim (cases-bool (ltb place (touched-months t))) [
@@ -166,6 +169,7 @@ module _ (t : Term) where
       ]
 
   all-touched : (year month : ℕ) → Touches t year month → (place : ℕ) × (place < touched-months t) × (touched-month t place ≡ Some (record { year = year; month = month }))
+  unfolding touched-months touched-month
   all-touched year month (k, h, y, m) =
       let i = month-index (day-of (t .first)) in
       let f = day-at (first-number t + k) in
@@ -183,7 +187,7 @@ module _ (t : Term) where
   span year month = record { «first_day» = day-number (first-of-month year month) - first-number t; days = month-length year month }
 
   day-of-span : (year month k : ℕ) → k < month-length year month → whole-in-term t year month ≡ true → (span year month .«first_day» + k < t .days) × (day-at (first-number t + (span year month .«first_day» + k)) ≡ record { year = year; month = month; day = k + 1 })
-  unfolding span
+  unfolding span whole-in-term
   day-of-span year month k l whole =
       let p = and-parts (lawful (first-of-month year month)) _ whole in
       let q = and-parts (leb (first-number t) (day-number (first-of-month year month))) _ (p .1) in
@@ -195,7 +199,7 @@ module _ (t : Term) where
       (omega arith, ap day-at (omega arith) ∙ day-laws .at-number w (m .0, m .1, omega arith))
 
   spans : (year month : ℕ) (s : MonthSpan) → month-span t year month ≡ Some s → (k : ℕ) → k < s .days → (s .«first_day» + k < t .days) × (day-at (first-number t + (s .«first_day» + k)) ≡ record { year = year; month = month; day = k + 1 })
-  unfolding span
+  unfolding span month-span
   spans year month s e k h =
       elim (cases-bool (whole-in-term t year month)) [
         | inl whole ↦
@@ -210,11 +214,12 @@ module _ (t : Term) where
       ]
 
   whole : (year month : ℕ) → lawful (first-of-month year month) ≡ true → Holds-month t year month → whole-in-term t year month ≡ true
+  unfolding whole-in-term
   whole year month l holds =
       let d = holds 1 (lawful-is (first-of-month year month) l .2) in
-      let e = holds (month-length year month) (omega (arith, some-days (leap year) month)) in
+      let e = holds (month-length year month) (omega (arith, some-days year month)) in
       let f = day-in-month year month (month-length year month) in
-      and-from _ _ l (and-from _ _ (le-leb _ _ (d .0)) (le-leb _ _ (omega (arith, e, f, some-days (leap year) month))))
+      and-from _ _ l (and-from _ _ (le-leb _ _ (d .0)) (le-leb _ _ (omega (arith, e, f, some-days year month))))
 
 pub month-laws : Month-laws
 month-laws = record { one-to-five = one-to-five; touched = touched; all-touched = all-touched; spans = spans; whole = whole }

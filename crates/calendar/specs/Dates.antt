@@ -30,7 +30,7 @@ abbrev pub Date-of-number : ℕ → Option Date → Type 0
 Date-of-number n None = calendar-days ≤ n
 Date-of-number n (Some d) = (n < calendar-days) × (day-of d ≡ day-at n) × (number-of d ≡ n)
 
--- the date after, which none has that is the last
+-- the date after; 2099-12-31 has none
 abbrev pub Date-after : Date → Option Date → Type 0
 Date-after d None = number-of d + 1 ≡ calendar-days
 Date-after d (Some e) = (day-of e ≡ day-after (day-of d)) × (number-of e ≡ number-of d + 1)

@@ -26,7 +26,7 @@ length-of-month long month =
     cond (eqb month 2) (cond long 29 28)
     (cond (eqb month 4 || (eqb month 6 || (eqb month 9 || eqb month 11))) 30 31)
 
-abbrev pub month-length : ℕ → ℕ → ℕ
+unfoldable pub month-length : ℕ → ℕ → ℕ
 month-length year month = length-of-month (leap year) month
 
 -- a day of the calendar
@@ -84,11 +84,12 @@ day-number d = days-before-year (d .year) + days-before-month (d .year) (d .mont
 
 -- What the two counts promise. Callers use these, and not how days before a month are found.
 -- number-at, at-number: number and day are each other's inverse. after: the day after has the next number.
--- same: equal numbers are of equal days. earlier, numbers-earlier: order of days is order of numbers.
+-- last: no day is left after 2099-12-31. same: equal numbers are of equal days. earlier, numbers-earlier: order of days is order of numbers.
 pub record Day-laws : Type 0 where
   pub lawful-at : (n : ℕ) → n < calendar-days → Lawful (day-at n)
   pub number-at : (n : ℕ) → n < calendar-days → day-number (day-at n) ≡ n
   pub at-number : (d : Day) → Lawful d → day-at (day-number d) ≡ d
+  pub last : day-number (record { year = 2099; month = 12; day = 31 }) + 1 ≡ calendar-days
   pub number-below : (d : Day) → Lawful d → day-number d < calendar-days
   pub after : (d : Day) → Lawful d → day-number (day-after d) ≡ day-number d + 1
   pub same : (d e : Day) → Lawful d → Lawful e → day-number d ≡ day-number e → d ≡ e

@@ -20,11 +20,11 @@ abbrev pub month-counted : ℕ → Month
 month-counted n = record { year = 2000 + n / 12; month = n % 12 + 1 }
 
 -- how many months the term touches, from that of its first day to that of its last
-abbrev pub touched-months : Term → ℕ
+unfoldable pub touched-months : Term → ℕ
 touched-months t = month-index (day-at (last-number t)) + 1 - month-index (day-of (t .first))
 
 -- the touched month at a place, counted from 0
-abbrev pub touched-month : Term → ℕ → Option Month
+unfoldable pub touched-month : Term → ℕ → Option Month
 touched-month t place =
     cond (ltb place (touched-months t)) (Some (month-counted (month-index (day-of (t .first)) + place))) None
 
@@ -32,14 +32,14 @@ abbrev pub first-of-month : ℕ → ℕ → Day
 first-of-month year month = record { year = year; month = month; day = 1 }
 
 -- the month's first day is not before the term's first, and its last not after the term's last
-abbrev pub whole-in-term : Term → ℕ → ℕ → Bool
+unfoldable pub whole-in-term : Term → ℕ → ℕ → Bool
 whole-in-term t year month =
     lawful (first-of-month year month)
     && (leb (first-number t) (day-number (first-of-month year month))
     && leb (day-number (first-of-month year month) + month-length year month) (first-number t + t .days))
 
 -- where a whole month begins in the term, and how many days it has
-abbrev pub month-span : Term → ℕ → ℕ → Option MonthSpan
+unfoldable pub month-span : Term → ℕ → ℕ → Option MonthSpan
 month-span t year month =
     cond (whole-in-term t year month)
     (Some (record { «first_day» = day-number (first-of-month year month) - first-number t; days = month-length year month }))

@@ -23,7 +23,7 @@ abbrev pub draft-of : Term → Term-draft
 draft-of t = record { first = day-of (t .first); days = t .days }
 
 -- a lawful first day, 1 to 92 days, and the last of them not after 2099-12-31
-abbrev pub lawful-term : Term-draft → Bool
+unfoldable pub lawful-term : Term-draft → Bool
 lawful-term t = lawful (t .first) && (within 1 92 (t .days) && leb (day-number (t .first) + t .days) calendar-days)
 
 abbrev pub first-fault : Term-draft → Option TermFault

@@ -1,12 +1,13 @@
 // The calendar part: rounding of quotients, the units of the quantities, dates from 2000 to 2099,
 // and the term of a book with its hours, intervals and months.
-mod dates;
+// The modules of types are public for the impls that are derived there, as `dates::DatePartialOrd`.
+pub mod dates;
 mod day_numbers;
-mod months;
+pub mod months;
 mod places;
 mod rounding;
-mod terms;
-mod units;
+pub mod terms;
+pub mod units;
 
 pub use dates::Date;
 pub use day_numbers::DateDisplay;

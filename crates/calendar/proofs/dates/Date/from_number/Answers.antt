@@ -21,11 +21,11 @@ month-of-day-month-requires c κs = omega (arith, year-found (c .args .number) (
 
 pub cast-day : need.cast-day
 cast-day c =
-    omega (arith, year-found (c .args .number) (omega arith), month-over (year (c .args .number)) (c .month-of-day-month .result) (omega arith), few-days (leap (year (c .args .number))) (c .month-of-day-month .result))
+    omega (arith, year-found (c .args .number) (omega arith), month-over (year (c .args .number)) (c .month-of-day-month .result) (omega arith), few-days (year (c .args .number)) (c .month-of-day-month .result))
 
 pub add-day : need.add-day
 add-day c =
-    omega (arith, year-found (c .args .number) (omega arith), month-over (year (c .args .number)) (c .month-of-day-month .result) (omega arith), few-days (leap (year (c .args .number))) (c .month-of-day-month .result))
+    omega (arith, year-found (c .args .number) (omega arith), month-over (year (c .args .number)) (c .month-of-day-month .result) (omega arith), few-days (year (c .args .number)) (c .month-of-day-month .result))
 
 pub returns : need.returns
 unfolding day-number
