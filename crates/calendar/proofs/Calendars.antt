@@ -2,13 +2,13 @@
 -- other's inverse.
 use Prim.Native.Nat.{ℕ, zero, suc, _+_, _-_, _*_, _/_, _<_, _≤_}
 use mathlib.Core.Path.{_≡_, refl, ap, sym, _∙_}
-use mathlib.Core.Bool.{Bool, cond}
+use mathlib.Core.Bool.{cond}
 use mathlib.Core.Logic.{inl, inr}
 use native.Mathlib.Omega.{arith}
 use lib.Dec.{ltb}
 use Rattle.std.proofs.shelf.Tests.{cases-order, cond-both, ltb-true, ltb-false}
 use Rattle.std.proofs.shelf.Ways.{tells}
-use Rattle.calendar.specs.Days.{Day, Lawful, Earlier, calendar-days, leap, month-length, length-of-month, length-of-months, length-of-years, days-before-year, days-before-month, day-number, day-after, day-at, Day-laws}
+use Rattle.calendar.specs.Days.{Day, Lawful, Earlier, calendar-days, leap, month-length, length-of-months, length-of-years, days-before-year, days-before-month, day-number, day-after, day-at, Day-laws}
 use Rattle.calendar.proofs.Counts.{years-closed, years-grow, more-months, all-months, months-grow}
 
 -- the months before the next month

@@ -1,12 +1,10 @@
 -- The day of the term in which a place lies.
 use Prim.Native.Nat.{ℕ, _+_, _*_, _/_, _<_, _≤_}
-use mathlib.Core.Path.{_≡_, sym, subst, _∙_}
-use mathlib.Core.Logic.{inl, inr}
+use mathlib.Core.Path.{_≡_, subst}
 use native.Mathlib.Omega.{arith}
 use native.Mathlib.Nat.{mul-comm, mul-suc, mul-le-mul-left}
-use lib.Dec.{ltb}
-use Rattle.std.specs.declared.option.Option.the-variants.{Some, None}
-use Rattle.std.proofs.shelf.Tests.{cases-bool, cond-true, cond-false, lt-ltb, ltb-true}
+use Rattle.std.specs.declared.option.Option.the-variants.{Some}
+use Rattle.std.proofs.shelf.Ways.{tells}
 use Rattle.std.proofs.shelf.Bits.{div-below}
 use Rattle.calendar.specs.declared.terms.Term.{Term}
 use Rattle.calendar.specs.Terms.{day-of-place, Term-laws}
@@ -14,26 +12,19 @@ use Rattle.calendar.proofs.Quotients.{quotient-is, quotient-only}
 
 in-day : (places : ℕ) (t : Term) (place day : ℕ) → 0 < places → day < t .days → day * places ≤ place → place < day * places + places → day-of-place places t place ≡ Some day
 in-day places t place day h d l u =
-    let e : place / places ≡ day = quotient-only place places day (omega (arith, mul-comm day places)) (omega (arith, mul-comm day places)) in
-    let m = mul-le-mul-left places d in
-    let s = mul-suc places day in
-    cond-true (ltb place (places * t .days)) (Some (place / places)) None (lt-ltb place (places * t .days) (omega (arith, mul-comm day places))) ∙ (rw e)
+    let c = mul-comm day places in
+    let e : place / places ≡ day = quotient-only place places day (omega arith) (omega arith) in
+    let w : place < places * t .days = omega (arith, mul-le-mul-left places d, mul-suc places day) in
+    grind (arith, tells)
 
 day-has : (places : ℕ) (t : Term) (place day : ℕ) → 0 < places → day-of-place places t place ≡ Some day → (day < t .days) × (day * places ≤ place) × (place < day * places + places)
 day-has places t place day h e =
-    elim (cases-bool (ltb place (places * t .days))) [
-      | inl within ↦
-          let f : Some (place / places) ≡ Some day = sym (cond-true (ltb place (places * t .days)) (Some (place / places)) None within) ∙ e in
-          let g : place / places ≡ day = cc in
-          let q = quotient-is place places h in
-          let b = div-below place places (t .days) h (omega (arith, ltb-true place (places * t .days) within, mul-comm places (t .days))) in
-          let k = mul-comm places (place / places) in
-          subst (λ (n : ℕ). (n < t .days) × (n * places ≤ place) × (place < n * places + places)) g (b, omega arith, omega arith)
-      | inr past ↦
-          let f : None ≡ Some day = sym (cond-false (ltb place (places * t .days)) (Some (place / places)) None past) ∙ e in
-          let z : _≡_ {A = ℕ} 0 1 = cc in
-          absurd (omega arith)
-    ]
+    let w : place < places * t .days = grind (arith, tells) in
+    let f : place / places ≡ day = grind (arith, tells) in
+    let q = quotient-is place places h in
+    let b = div-below place places (t .days) h (omega (arith, mul-comm places (t .days))) in
+    let c = mul-comm places (place / places) in
+    subst (λ (n : ℕ). (n < t .days) × (n * places ≤ place) × (place < n * places + places)) f (b, omega arith, omega arith)
 
 pub term-laws : Term-laws
 term-laws = record { in-day = in-day; day-has = day-has }

@@ -1,17 +1,18 @@
 -- The months of a term, by the day on which each month begins.
 use Prim.Native.Nat.{ℕ, zero, suc, _+_, _-_, _*_, _/_, _%_, _<_, _≤_}
-use mathlib.Core.Path.{_≡_, ap, sym, subst, _∙_}
+use mathlib.Core.Path.{_≡_, ap, subst, _∙_}
 use mathlib.Core.Bool.{true}
 use mathlib.Core.Logic.{inl, inr}
 use native.Mathlib.Omega.{arith}
 use native.Mathlib.Nat.{add-zero}
 use lib.Dec.{leb, ltb}
 use Rattle.std.specs.declared.option.Option.the-variants.{Some, None}
-use Rattle.std.proofs.shelf.Tests.{and-from, and-parts, cases-bool, cases-lt, cond-false, cond-true, le-leb, leb-true, lt-ltb, ltb-true}
+use Rattle.std.proofs.shelf.Ways.{tells}
+use Rattle.std.proofs.shelf.Tests.{and-from, and-parts, cases-lt, cond-true, le-leb, leb-true, lt-ltb}
 use Rattle.calendar.specs.declared.terms.Term.{Term}
 use Rattle.calendar.specs.declared.months.Month.{Month}
 use Rattle.calendar.specs.declared.months.MonthSpan.{MonthSpan}
-use Rattle.calendar.specs.Days.{Day, Within, Lawful, leap, month-length, lawful, day-at, day-number, days-before-year}
+use Rattle.calendar.specs.Days.{Day, Within, Lawful, month-length, lawful, day-at, day-number, days-before-year}
 use Rattle.calendar.specs.Dates.{day-of}
 use Rattle.calendar.specs.Terms.{first-number, last-number}
 use Rattle.calendar.specs.Months.{month-index, month-counted, touched-months, touched-month, first-of-month, whole-in-term, month-span, Touches, Holds-month, Month-laws}
@@ -156,17 +157,9 @@ module _ (t : Term) where
   touched : (place : ℕ) (m : Month) → touched-month t place ≡ Some m → Touches t (m .year) (m .month)
   unfolding touched-month
   touched place m e =
-      let n = month-counted (month-index (day-of (t .first)) + place) in
-      elim (cases-bool (ltb place (touched-months t))) [
-        | inl within ↦
-            let f : Some n ≡ Some m = sym (cond-true (ltb place (touched-months t)) (Some n) None within) ∙ e in
-            let g : n ≡ m = cc in
-            subst (λ (w : Month). Touches t (w .year) (w .month)) g (touched-at place (ltb-true _ _ within))
-        | inr past ↦
-            let f : None ≡ Some m = sym (cond-false (ltb place (touched-months t)) (Some n) None past) ∙ e in
-            let z : _≡_ {A = ℕ} 0 1 = cc in
-            absurd (omega arith)
-      ]
+      let within : place < touched-months t = grind (arith, tells) in
+      let same : month-counted (month-index (day-of (t .first)) + place) ≡ m = grind (arith, tells) in
+      subst (λ (w : Month). Touches t (w .year) (w .month)) same (touched-at place within)
 
   all-touched : (year month : ℕ) → Touches t year month → (place : ℕ) × (place < touched-months t) × (touched-month t place ≡ Some (record { year = year; month = month }))
   unfolding touched-months touched-month
@@ -201,17 +194,10 @@ module _ (t : Term) where
   spans : (year month : ℕ) (s : MonthSpan) → month-span t year month ≡ Some s → (k : ℕ) → k < s .days → (s .«first_day» + k < t .days) × (day-at (first-number t + (s .«first_day» + k)) ≡ record { year = year; month = month; day = k + 1 })
   unfolding span month-span
   spans year month s e k h =
-      elim (cases-bool (whole-in-term t year month)) [
-        | inl whole ↦
-            let f : Some (span year month) ≡ Some s = sym (cond-true (whole-in-term t year month) (Some (span year month)) None whole) ∙ e in
-            let g : span year month ≡ s = cc in
-            subst (λ (m : MonthSpan). k < m .days → (m .«first_day» + k < t .days) × (day-at (first-number t + (m .«first_day» + k)) ≡ record { year = year; month = month; day = k + 1 })) g
-            (λ l. day-of-span year month k l whole) h
-        | inr partly ↦
-            let f : None ≡ Some s = sym (cond-false (whole-in-term t year month) (Some (span year month)) None partly) ∙ e in
-            let z : _≡_ {A = ℕ} 0 1 = cc in
-            absurd (omega arith)
-      ]
+      let whole : whole-in-term t year month ≡ true = grind (arith, tells) in
+      let same : span year month ≡ s = grind (arith, tells) in
+      subst (λ (m : MonthSpan). k < m .days → (m .«first_day» + k < t .days) × (day-at (first-number t + (m .«first_day» + k)) ≡ record { year = year; month = month; day = k + 1 })) same
+      (λ l. day-of-span year month k l whole) h
 
   whole : (year month : ℕ) → lawful (first-of-month year month) ≡ true → Holds-month t year month → whole-in-term t year month ≡ true
   unfolding whole-in-term

@@ -2,7 +2,7 @@ use mathlib.Core.Path.{_≡_}
 use Prim.Native.Nat.{ℕ, _+_, _-_, _*_, _/_}
 use native.Mathlib.Omega.{arith}
 use Rattle.std.specs.declared.option.Option.the-variants.{None}
-use Rattle.calendar.specs.Days.{Day, Lawful, day-number, leap}
+use Rattle.calendar.specs.Days.{Day, Lawful, day-number}
 use Rattle.calendar.proofs.Calendars.{few-days, month-over, year-found}
 use Rattle.calendar.proofs.SameDates.{number-is, number-only}
 use Rattle.calendar.proofs.dates.Date.from_number.Needs as need
