@@ -1,8 +1,8 @@
 // Terms made of a first day and a count of days, and their hours, intervals and days by place.
 ghost use mathlib.Core.Path.{_≡_};
-ghost use Rattle.calendar.specs.Days.{day-at};
+ghost use Rattle.calendar.specs.Days.{Within, day-at};
 ghost use Rattle.calendar.specs.Dates.{day-of, number-of};
-ghost use Rattle.calendar.specs.Terms.{Term-of, fault-number, hours-of, intervals-of, day-of-hour, day-of-interval, last-number, Date-of-term-day, Term-laws};
+ghost use Rattle.calendar.specs.Terms.{Term-of, fault-number, hours-of, intervals-of, day-of-place, day-of-hour, day-of-interval, last-number, Date-of-term-day, Term-laws};
 use crate::dates::Date;
 use crate::day_numbers::CALENDAR_DAYS;
 use crate::terms::Term;
@@ -49,24 +49,29 @@ impl Term {
         INTERVALS_A_DAY * self.days as usize
     }
 
+    // The day of the term in which a place lies, where a day has that many places, or none past the term.
+    fn day_of_place(self, places_a_day: usize, place: usize) -> Option<usize>
+        requires { ⌜ Within 1 96 «places_a_day» ⌝ }
+        ensures { λ r. ⌜ r ≡ day-of-place «places_a_day» self place ⌝ }
+    {
+        if place >= places_a_day * self.days as usize {
+            return None;
+        }
+        Some(place / places_a_day)
+    }
+
     // The day of the term in which an hour lies, or none past the term.
     pub fn day_of_hour(self, hour: usize) -> Option<usize>
         ensures { λ r. ⌜ r ≡ day-of-hour self hour ⌝ }
     {
-        if hour >= self.hours() {
-            return None;
-        }
-        Some(hour / HOURS_A_DAY)
+        self.day_of_place(HOURS_A_DAY, hour)
     }
 
     // The day of the term in which an interval lies, or none past the term.
     pub fn day_of_interval(self, interval: usize) -> Option<usize>
         ensures { λ r. ⌜ r ≡ day-of-interval self interval ⌝ }
     {
-        if interval >= self.intervals() {
-            return None;
-        }
-        Some(interval / INTERVALS_A_DAY)
+        self.day_of_place(INTERVALS_A_DAY, interval)
     }
 
     // The date of a day of the term, days counted from 0, or none past the term.
