@@ -82,7 +82,7 @@ days-before-month year month = length-of-months (leap year) (month - 1)
 unfoldable pub day-number : Day → ℕ
 day-number d = days-before-year (d .year) + days-before-month (d .year) (d .month) + (d .day - 1)
 
--- What the two counts promise. Callers use these, and not how days before a month are found.
+-- What the two counts promise. Parts above use these, and not how days before a month are found.
 -- number-at, at-number: number and day are each other's inverse. after: the day after has the next number.
 -- last: no day is left after 2099-12-31. same: equal numbers are of equal days. earlier, numbers-earlier: order of days is order of numbers.
 pub record Day-laws : Type 0 where

@@ -1,4 +1,3 @@
-use mathlib.Core.Path.{sym}
 use Prim.Native.Nat.{_-_}
 use native.Mathlib.Omega.{arith}
 use Rattle.calendar.specs.Days.{days-before-year}
@@ -7,4 +6,4 @@ use Rattle.calendar.proofs.day_numbers.days_before_year.Needs as need
 
 pub returns : need.returns
 unfolding days-before-year
-returns c = sym (years-closed (c .args .year - 2000) (omega arith))
+returns c = omega (arith, years-closed (c .args .year - 2000) (omega arith))
