@@ -1,6 +1,8 @@
 // The calendar part: rounding of quotients, the units of the quantities, dates from 2000 to 2099,
 // and the term of a book with its hours, intervals and months.
 // The modules of types are public for the impls that are derived there, as `dates::DatePartialOrd`.
+#![tactic(auto)]
+
 pub mod dates;
 mod day_numbers;
 pub mod months;

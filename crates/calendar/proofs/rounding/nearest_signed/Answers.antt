@@ -7,11 +7,11 @@ use Rattle.calendar.proofs.Rounds.{nearest_fits}
 use Rattle.calendar.proofs.rounding.nearest_signed.Goals as goal
 
 -- what `div_euclid` answered
-quotient : (c : goal.After-div-euclid) → c.div-euclid.result ≡ nearest_ℤ c.args.a (non_zero_u64_get c.args.b)
+quotient : (c : goal.After-div_euclid) → c.div_euclid.result ≡ nearest_ℤ c.args.a (non_zero_u64_get c.args.b)
 unfolding nearest_ℤ
 quotient c = grind (arith, ints, to_z-of_z, euclid_floors)
 
-within : (c : goal.After-div-euclid) → SFits w64 c.div-euclid.result
+within : (c : goal.After-div_euclid) → SFits w64 c.div_euclid.result
 within c =
     subst (λ (z : ℤ). SFits w64 z) (sym (quotient c)) (nearest_fits c.args.a (non_zero_u64_get c.args.b) (omega arith) c.ranges.a)
 
