@@ -1,5 +1,5 @@
 -- Quotients of naturals and of integers by their products with the divisor.
-use Rattle.std.proofs.Common.{◌≡◌, ℕ, zero, suc, ◌+◌, ◌-◌, ◌*◌, ◌/◌, ◌<◌, ◌≤◌, ℤ, pos, negsuc, ◌+ℤ◌, ◌*ℤ◌, neg_ℤ, ◌≤ℤ◌, ◌<ℤ◌, sym, refl, ap, suc-mul, mul_comm, mul-suc, div-mul-le_self, arith}
+use Rattle.std.proofs.Common.{◌≡◌, ℕ, zero, suc, ◌+◌, ◌*◌, ◌/◌, ◌<◌, ◌≤◌, ℤ, pos, negsuc, ◌+ℤ◌, ◌*ℤ◌, neg_ℤ, ◌≤ℤ◌, ◌<ℤ◌, sym, refl, ap, suc-mul, mul_comm, mul-suc, div-mul-le_self, arith}
 use native.Mathlib.Nat.{div-add-mod, div-eq_of_lt-le}
 use lib.IntN.{neg_ℤ-neg_ℤ}
 use Rattle.std.specs.Int.{int_div_euclid}

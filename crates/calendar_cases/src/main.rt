@@ -1,4 +1,6 @@
 // Prints what the calendar part answers over grids of cases. `stdout` has the same, worked by tools/calendar_cases.py.
+#![tactic(auto)]
+
 use calendar::{Date, Term, nearest, nearest_signed, round_up};
 use std::io;
 use std::num::NonZeroU64;

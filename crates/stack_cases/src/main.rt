@@ -1,5 +1,7 @@
 // Prints what the stack part answers over grids of cases and drawn hours. `stdout` has the same, worked by
 // tools/stack_cases.py.
+#![tactic(auto)]
+
 mod draws;
 mod faults;
 mod figures;

@@ -1,4 +1,6 @@
 // Goes through a stack hour from sixty readings to grams, and prints each step in plain sentences.
+#![tactic(auto)]
+
 mod stack_hour;
 
 use std::io;

@@ -1,4 +1,6 @@
 // Goes through a task of the library from beginning to end, and prints each step in plain sentences.
+#![tactic(auto)]
+
 use calendar::{Grams, Hectopascals, Kilograms, Term, nearest, nearest_signed, round_up};
 use std::io;
 use std::num::NonZeroU64;

@@ -4,9 +4,9 @@ use Rattle.calendar.specs.Days.{days_before_month, leap, length_of_months}
 use Rattle.calendar.proofs.Counts.{with_leap_day, without_leap_day}
 use Rattle.calendar.proofs.day_numbers.days_before_month.Goals as goal
 
-pub returns-then-is-leap : goal.returns-then-is-leap
+pub returns-then-is_leap : goal.returns-then-is_leap
 unfolding days_before_month length_of_months
-returns-then-is-leap c =
+returns-then-is_leap c =
     let within : c.args.month - 1 < 12 = omega arith in
     let leap-day : (leap c.args.year && ltb 1 (c.args.month - 1)) ≡ true = grind (arith, nat_tests) in
     search (with_leap_day, refl)

@@ -5,8 +5,8 @@ use Rattle.calendar.proofs.Quotients.{quotient_is}
 use Rattle.calendar.proofs.Laws.{half_goes_up}
 use Rattle.calendar.proofs.rounding.nearest.Goals as goal
 
-pub overflow-cast-result-2 : goal.overflow-cast-result-2
-overflow-cast-result-2 c = record { fits = div_below _ (2 * c.get-divisor.result) 18446744073709551616 (omega arith) (omega arith) }
+pub overflow_cast-result-2 : goal.overflow_cast-result-2
+overflow_cast-result-2 c = record { fits = div_below _ (2 * c.get-divisor.result) 18446744073709551616 (omega arith) (omega arith) }
 
 pub returns : goal.returns
 returns c =

@@ -15,8 +15,8 @@ within : (c : goal.After-div_euclid) → SFits w64 c.div_euclid.result
 within c =
     subst (λ (z : ℤ). SFits w64 z) (sym (quotient c)) (nearest_fits c.args.a (non_zero_u64_get c.args.b) (omega arith) c.ranges.a)
 
-pub overflow-cast-result : goal.overflow-cast-result
-overflow-cast-result c = let f = within c in omega (arith, ints)
+pub overflow_cast-result : goal.overflow_cast-result
+overflow_cast-result c = let f = within c in omega (arith, ints)
 
 pub returns : goal.returns
 returns c = let f = within c in let e = quotient c in omega (arith, ints)

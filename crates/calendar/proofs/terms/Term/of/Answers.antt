@@ -2,9 +2,9 @@ use Rattle.std.proofs.Common.{rules}
 use Rattle.calendar.specs.Terms.{lawful_term}
 use Rattle.calendar.proofs.terms.Term.of.Goals as goal
 
-pub returns-in-default : goal.returns-in-default
+pub returns-in_default : goal.returns-in_default
 unfolding lawful_term
-returns-in-default c = search rules
+returns-in_default c = search rules
 
 pub returns-then-days-lt1 : goal.returns-then-days-lt1
 unfolding lawful_term
