@@ -1,5 +1,5 @@
 -- The letters of marks.
-use Rattle.std.proofs.Common.{◌≡◌, ℕ, Ok, Err, refl, arith}
+use Rattle.std.proofs.Common.{◌≡◌, ℕ, Ok, refl, arith}
 use Rattle.std.proofs.lemmas.Bool.Decides.{nat_tests}
 use Rattle.stack.specs.declared.marks.Mark.{Mark}
 use Rattle.stack.specs.declared.marks.Mark.TheVariants.{Valid, Breakdown, Repair, NoQualityControl, CalibrationOverdue, OutOfSpecification, PlannedMaintenance, Calibration, OutOfControl}

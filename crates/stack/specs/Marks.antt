@@ -1,5 +1,5 @@
 -- Marks and their letters.
-use Rattle.std.specs.Prelude.{◌≡◌, ℕ, Bool, true, false, cond, Ok, Err, Result, ◌==◌}
+use Rattle.std.specs.Prelude.{◌≡◌, ℕ, Bool, cond, Ok, Err, Result, ◌==◌}
 use Rattle.stack.specs.declared.marks.Mark.{Mark}
 use Rattle.stack.specs.declared.marks.Mark.TheVariants.{Valid, Breakdown, Repair, NoQualityControl, CalibrationOverdue, OutOfSpecification, PlannedMaintenance, Calibration, OutOfControl}
 use Rattle.stack.specs.declared.marks.MarkFault.{MarkFault}

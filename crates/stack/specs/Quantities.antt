@@ -1,5 +1,5 @@
 -- The six quantities of a minute, and the ranges that they have in a valid one.
-use Rattle.std.specs.Prelude.{ℕ, Bool, ◌&&◌, ℤ, pos, neg_ℤ, int_le, nat_le}
+use Rattle.std.specs.Prelude.{Bool, ◌&&◌, ℤ, pos, neg_ℤ, int_le, nat_le}
 use Rattle.calendar.specs.Days.{within}
 use Rattle.stack.specs.declared.quantities.Quantities.{Quantities}
 

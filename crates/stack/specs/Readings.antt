@@ -1,5 +1,5 @@
 -- How a raw reading is judged, and what an accepted one keeps.
-use Rattle.std.specs.Prelude.{◌≡◌, ℕ, Bool, cond, not, ◌&&◌, Some, None, Ok, Err, Option, Result}
+use Rattle.std.specs.Prelude.{◌≡◌, ℕ, cond, not, ◌&&◌, Some, None, Ok, Err, Option, Result}
 use Rattle.stack.specs.declared.marks.Mark.{Mark}
 use Rattle.stack.specs.declared.marks.MarkFault.{MarkFault}
 use Rattle.stack.specs.declared.readings.RawReading.{RawReading}

@@ -1,5 +1,7 @@
 // The stack part: minute readings with their marks, stack hours of sixty readings, the settings of a stack,
 // and the working from the valid minutes of an interval or an hour to grams of CO2.
+#![tactic(auto)]
+
 pub mod hours;
 pub mod marks;
 pub mod means;

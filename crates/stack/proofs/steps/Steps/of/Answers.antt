@@ -5,35 +5,35 @@ use Rattle.stack.proofs.Ranges.{ranged}
 use Rattle.stack.proofs.Limits.{w1_high, w2_high, w3_high, w4_high, w5_high, hour_limits, pressure_range}
 use Rattle.stack.proofs.steps.Steps.of.Goals as goal
 
-pub at-zero-at-zero-requires : goal.at-zero-at-zero-requires
-at-zero-at-zero-requires c =
+pub at_zero-at_zero-requires : goal.at_zero-at_zero-requires
+at_zero-at_zero-requires c =
     let s = c.args.settings.now in
     let q = c.args.means.now.quantities in
     let r = ranged q c.args.means.now.in_range in
     let h = w1_high c.args.span s q r in
     record { gas = omega (arith, c.flow-flow.ensures, (hour_limits c.args.span).0); low = r.temperature_low }
 
-pub at-standard-at-standard-requires : goal.at-standard-at-standard-requires
-at-standard-at-standard-requires c =
+pub at_standard-at_standard-requires : goal.at_standard-at_standard-requires
+at_standard-at_standard-requires c =
     let s = c.args.settings.now in
     let q = c.args.means.now.quantities in
     let r = ranged q c.args.means.now.in_range in
     let h = w2_high c.args.span s q r in
-    let e : c.at-zero-at-zero.result.0 ≡ w2 c.args.span s q = cc in
+    let e : c.at_zero-at_zero.result.0 ≡ w2 c.args.span s q = cc in
     let p = pressure_range q r in
     record {
       gas = omega (arith, (hour_limits c.args.span).1);
-      low = omega (arith, ints, c.stack-pressure-pressure.ensures);
-      high = omega (arith, ints, c.stack-pressure-pressure.ensures);
+      low = omega (arith, ints, c.stack_pressure-pressure.ensures);
+      high = omega (arith, ints, c.stack_pressure-pressure.ensures);
     }
 
-pub on-basis-on-basis-requires : goal.on-basis-on-basis-requires
-on-basis-on-basis-requires c =
+pub on_basis-on_basis-requires : goal.on_basis-on_basis-requires
+on_basis-on_basis-requires c =
     let s = c.args.settings.now in
     let q = c.args.means.now.quantities in
     let r = ranged q c.args.means.now.in_range in
     let h = w3_high c.args.span s q r in
-    let e : c.at-standard-at-standard.result.0 ≡ w3 c.args.span s q = cc in
+    let e : c.at_standard-at_standard.result.0 ≡ w3 c.args.span s q = cc in
     record { gas = omega (arith, (hour_limits c.args.span).2); moisture = r.moisture_high }
 
 pub co2-co2-requires : goal.co2-co2-requires
@@ -42,7 +42,7 @@ co2-co2-requires c =
     let q = c.args.means.now.quantities in
     let r = ranged q c.args.means.now.in_range in
     let h = w4_high c.args.span s q r in
-    let e : c.on-basis-on-basis.result.0 ≡ w4 c.args.span s q = cc in
+    let e : c.on_basis-on_basis.result.0 ≡ w4 c.args.span s q = cc in
     record { gas = omega (arith, (hour_limits c.args.span).2); share = r.co2_high }
 
 pub grams-requires : goal.grams-requires
