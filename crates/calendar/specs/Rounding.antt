@@ -22,7 +22,7 @@ round_up_ℕ a b = unsigned_abs (round_up_ℤ (pos a) b)
 
 -- What rounding to the nearest keeps wherever a half goes: callers use these.
 -- near: |2(b·r − a)| ≤ b for the rounded r. exact: at a multiple of b nothing is rounded.
--- at-most, at-least: a bound h·b on a is a bound h on the result. natural: on naturals both definitions are one.
+-- at_most, at_least: a bound h·b on a is a bound h on the result. natural: on naturals both definitions are one.
 pub record NearestLaws : Type 0 where
   pub near_ℤ : (a : ℤ) (b : ℕ) → 0 < b → ((pos 2 *ℤ (pos b *ℤ nearest_ℤ a b)) ≤ℤ (pos 2 *ℤ a +ℤ pos b)) × ((pos 2 *ℤ a) ≤ℤ (pos 2 *ℤ (pos b *ℤ nearest_ℤ a b) +ℤ pos b))
   pub near_ℕ : (a b : ℕ) → 0 < b → (2 * (b * nearest_ℕ a b) ≤ 2 * a + b) × (2 * a ≤ 2 * (b * nearest_ℕ a b) + b)

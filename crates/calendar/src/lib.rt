@@ -1,6 +1,6 @@
 // The calendar part: rounding of quotients, the units of the quantities, dates from 2000 to 2099,
 // and the term of a book with its hours, intervals and months.
-// The modules of types are public for the impls that are derived there, as `dates::DatePartialOrd`.
+// The modules that declare types are public too.
 #![tactic(auto)]
 
 pub mod dates;
