@@ -2,9 +2,10 @@
 """Respells the definitions and lemmas of this repository: words in snake case, types in camel case.
 
 Run once, at the top of the repository. It turns each name with a dash that a file of specs/ or proofs/ defines, wherever
-it stands as a whole name in an .antt file or in a clause of an .rt file: `month-length` to `month_length`, `Day-laws` to
-`DayLaws`. The names that the prover makes for goals and steps are not defined there and stay, and so do strings,
-must-fail edits, inputs and outputs. It stops, and writes nothing, where two names would fall together.
+it stands as a whole name in an .antt or .rt file, comments and strings included: `month-length` to `month_length`, `Day-laws`
+to `DayLaws`, and a hump of such a name too, `sumBy-ℤ` to `sum_by_ℤ`. The names that the prover makes for goals are not
+defined there and stay; must-fail edits, inputs and outputs are not read. It stops, and writes nothing, where two definitions,
+or a definition and a word beside it that is no function, would fall together.
 """
 import glob
 import re

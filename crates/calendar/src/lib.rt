@@ -1,8 +1,8 @@
 // The calendar part: rounding of quotients, the units of the quantities, dates from 2000 to 2099,
 // and the term of a book with its hours, intervals and months.
-// The modules that declare types are public too.
 #![tactic(auto)]
 
+// The modules that declare types are public too.
 pub mod dates;
 mod day_numbers;
 pub mod months;
