@@ -1,8 +1,9 @@
 -- Day numbers: the day after has the next number, order of days is order of numbers, and numbers and days are each
 -- other's inverse.
-use Rattle.std.proofs.Common.{◌≡◌, ℕ, zero, suc, ◌+◌, ◌-◌, ◌*◌, ◌/◌, ◌<◌, ◌≤◌, cond, ltb, sym, refl, ap, ◌∙◌, inl, inr, arith}
-use Rattle.std.proofs.lemmas.Bool.{cases_order, cond_both, ltb-true, ltb-false}
+use Rattle.std.proofs.Common.{◌≡◌, ℕ, zero, suc, ◌+◌, ◌-◌, ◌*◌, ◌/◌, ◌<◌, ◌≤◌, cond, ltb, Option, Some, None, sym, refl, ap, ◌∙◌, subst, inl, inr, arith}
+use Rattle.std.proofs.lemmas.Bool.{cases_eq, cases_order, cond_both, ltb-true, ltb-false}
 use Rattle.std.proofs.lemmas.Bool.Decides.{nat_tests}
+use Rattle.std.specs.Option.{MatchOption, unwrap_or}
 use Rattle.calendar.specs.Days.{Day, Lawful, Earlier, calendar_days, leap, month_length, length_of_months, length_of_years, days_before_year, days_before_month, day_number, day_after, day_at, DayLaws}
 use Rattle.calendar.proofs.Counts.{years_closed, years_grow, more_months, all_months, months_grow}
 
@@ -22,6 +23,15 @@ month_begins year month = ap (length_of_months (leap year)) (omega arith)
 pub january : (year : ℕ) → days_before_month year 1 ≡ 0
 unfolding days_before_month length_of_months
 january year = refl
+
+-- a month that is the first, or that a month comes before which is over, has begun
+pub month_begun : (year day : ℕ) (r : Option ℕ) → MatchOption r ((k : ℕ) → 1 ≤ k → k < 12 → days_before_month year (k + 1) ≤ day) (λ m. (1 ≤ m) × (m < 12) × (day < days_before_month year (m + 1)) × ((k : ℕ) → 1 ≤ k → k < m → days_before_month year (k + 1) ≤ day)) → days_before_month year (unwrap_or r 12) ≤ day
+month_begun year day None over = over 11 (omega arith) (omega arith)
+month_begun year day (Some m) (l, u, not-over, over) =
+    elim (cases_eq m 1) [
+      | inl first ↦ omega (arith, january year, ap (days_before_month year) first)
+      | inr later ↦ let e : m - 1 + 1 ≡ m = omega arith in subst (λ (n : ℕ). days_before_month year n ≤ day) e (over (m - 1) (omega arith) (omega arith))
+    ]
 
 -- a month has its days before the next begins
 pub month_over : (year month : ℕ) → 0 < month → days_before_month year (month + 1) ≡ days_before_month year month + month_length year month

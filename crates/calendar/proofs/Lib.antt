@@ -3,6 +3,7 @@ mod Rounds
 mod Tables
 mod Counts
 mod Calendars
+mod Texts
 mod SameDates
 mod DaysOfPlaces
 mod MonthsOfTerm

@@ -9,10 +9,13 @@ day_of d = record { year = d.year; month = d.month; day = d.day }
 abbrev pub number_of : Date → ℕ
 number_of d = day_number (day_of d)
 
+-- a number as text, in two digits or more
+abbrev pub two_digits : ℕ → List ℕ
+two_digits n = decimal (n / 10) ++ decimal (n % 10)
+
 -- a date as text: the year, and month and day in two digits each, with hyphens (45) between
 abbrev pub date_text : Date → List ℕ
-date_text d =
-    decimal d.year ++ (45 ∷ (decimal (d.month / 10) ++ (decimal (d.month % 10) ++ (45 ∷ (decimal (d.day / 10) ++ decimal (d.day % 10))))))
+date_text d = decimal d.year ++ (45 ∷ (two_digits d.month ++ (45 ∷ two_digits d.day)))
 
 -- the date of a day, where the day is lawful
 abbrev pub DateOfDay : Day → Option Date → Type 0

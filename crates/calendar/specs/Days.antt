@@ -1,5 +1,5 @@
 -- The calendar in whole numbers, from 2000-01-01 on: leap years, lengths of months, the day after a day, and day numbers.
-use Rattle.std.specs.Prelude.{◌≡◌, ℕ, zero, suc, ◌+◌, ◌-◌, ◌%◌, ◌<◌, ◌≤◌, Bool, cond, not, ◌&&◌, ◌||◌, ◌⊎◌, ◌==◌, nat_le, nat_lt}
+use Rattle.std.specs.Prelude.{◌≡◌, ℕ, zero, suc, ◌+◌, ◌-◌, ◌%◌, ◌<◌, ◌≤◌, Bool, if◌then◌else◌, not, ◌&&◌, ◌||◌, ◌⊎◌, ◌==◌, nat_le, nat_lt}
 
 -- days from 2000-01-01 to 2099-12-31
 abbrev pub calendar_days : ℕ
@@ -19,8 +19,8 @@ leap year = year % 4 == 0 && (not (year % 100 == 0) || year % 400 == 0)
 -- days of a month, 1 to 12, of a leap year (true) or a common one
 abbrev pub length_of_month : Bool → ℕ → ℕ
 length_of_month long month =
-    cond (month == 2) (cond long 29 28)
-    (cond (month == 4 || (month == 6 || (month == 9 || month == 11))) 30 31)
+    if month == 2 then (if long then 29 else 28)
+    else (if month == 4 || (month == 6 || (month == 9 || month == 11)) then 30 else 31)
 
 unfoldable pub month_length : ℕ → ℕ → ℕ
 month_length year month = length_of_month (leap year) month
@@ -41,11 +41,11 @@ lawful d = within 2000 2099 d.year && (within 1 12 d.month && within 1 (month_le
 -- the day after a day: the next of the month, or the first of the next month, or the first of January
 abbrev pub day_after : Day → Day
 day_after d =
-    cond (nat_lt d.day (month_length d.year d.month))
-    (record { year = d.year; month = d.month; day = d.day + 1 })
-    (cond (nat_lt d.month 12)
-    (record { year = d.year; month = d.month + 1; day = 1 })
-    (record { year = d.year + 1; month = 1; day = 1 }))
+    if nat_lt d.day (month_length d.year d.month)
+    then record { year = d.year; month = d.month; day = d.day + 1 }
+    else (if nat_lt d.month 12
+    then record { year = d.year; month = d.month + 1; day = 1 }
+    else record { year = d.year + 1; month = 1; day = 1 })
 
 -- Days counted: day 0 is 2000-01-01, and each next number is the day after.
 unfoldable pub day_at : ℕ → Day
@@ -62,7 +62,7 @@ Earlier d e =
 -- days of the first k years from 2000 on
 unfoldable pub length_of_years : ℕ → ℕ
 length_of_years zero = 0
-length_of_years (suc k) = length_of_years k + cond (leap (2000 + k)) 366 365
+length_of_years (suc k) = length_of_years k + (if leap (2000 + k) then 366 else 365)
 
 -- days of the first k months of a year
 unfoldable pub length_of_months : Bool → ℕ → ℕ

@@ -1,5 +1,6 @@
 pub mod Rounding
 pub mod Days
 pub mod Dates
+pub mod Spans
 pub mod Terms
 pub mod Months

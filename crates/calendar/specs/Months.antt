@@ -1,10 +1,10 @@
 -- The calendar months that a term touches, and those that lie in it whole.
-use Rattle.std.specs.Prelude.{◌≡◌, ℕ, ◌+◌, ◌-◌, ◌*◌, ◌/◌, ◌%◌, ◌<◌, Bool, true, cond, ◌&&◌, Some, None, Option, nat_le, nat_lt}
+use Rattle.std.specs.Prelude.{◌≡◌, ℕ, ◌+◌, ◌-◌, ◌*◌, ◌/◌, ◌%◌, ◌<◌, Bool, true, if◌then◌else◌, ◌&&◌, List, ◌∷◌, ◌++◌, decimal, Some, None, Option, nat_le, nat_lt}
 use Rattle.calendar.specs.declared.terms.Term.{Term}
 use Rattle.calendar.specs.declared.months.Month.{Month}
 use Rattle.calendar.specs.declared.months.MonthSpan.{MonthSpan}
 use Rattle.calendar.specs.Days.{Day, Within, month_length, lawful, day_at, day_number}
-use Rattle.calendar.specs.Dates.{day_of}
+use Rattle.calendar.specs.Dates.{day_of, two_digits}
 use Rattle.calendar.specs.Terms.{first_number, last_number}
 
 -- months counted from January 2000 as 0: the count of a day's month, and the month of a count
@@ -14,6 +14,10 @@ month_index d = 12 * (d.year - 2000) + (d.month - 1)
 abbrev pub month_counted : ℕ → Month
 month_counted n = record { year = 2000 + n / 12; month = n % 12 + 1 }
 
+-- a month as text: the year, a hyphen (45), and the month in two digits
+abbrev pub month_text : Month → List ℕ
+month_text m = decimal m.year ++ (45 ∷ two_digits m.month)
+
 -- how many months the term touches, from that of its first day to that of its last
 unfoldable pub touched_months : Term → ℕ
 touched_months t = month_index (day_at (last_number t)) + 1 - month_index (day_of t.first)
@@ -21,7 +25,7 @@ touched_months t = month_index (day_at (last_number t)) + 1 - month_index (day_o
 -- the touched month at a place, counted from 0
 unfoldable pub touched_month : Term → ℕ → Option Month
 touched_month t place =
-    cond (nat_lt place (touched_months t)) (Some (month_counted (month_index (day_of t.first) + place))) None
+    if nat_lt place (touched_months t) then Some (month_counted (month_index (day_of t.first) + place)) else None
 
 abbrev pub first_of_month : ℕ → ℕ → Day
 first_of_month year month = record { year = year; month = month; day = 1 }
@@ -36,9 +40,9 @@ whole_in_term t year month =
 -- where a whole month begins in the term, and how many days it has
 unfoldable pub month_span : Term → ℕ → ℕ → Option MonthSpan
 month_span t year month =
-    cond (whole_in_term t year month)
-    (Some (record { first_day = day_number (first_of_month year month) - first_number t; days = month_length year month }))
-    None
+    if whole_in_term t year month
+    then Some (record { first_day = day_number (first_of_month year month) - first_number t; days = month_length year month })
+    else None
 
 -- some day of the term lies in the month
 abbrev pub Touches : Term → ℕ → ℕ → Type 0

@@ -1,5 +1,5 @@
 -- Rounding of a quotient a / b of whole numbers, b above 0, and the laws by which callers are proved.
-use Rattle.std.specs.Prelude.{◌≡◌, ℕ, ◌+◌, ◌*◌, ◌/◌, ◌<◌, ◌≤◌, ℤ, pos, negsuc, ◌+ℤ◌, ◌*ℤ◌, neg_ℤ, ◌≤ℤ◌, ◌<ℤ◌, unsigned_abs}
+use Rattle.std.specs.Prelude.{◌≡◌, ℕ, ◌+◌, ◌*◌, ◌/◌, ◌<◌, ◌≤◌, ℤ, pos, negsuc, ◌+ℤ◌, ◌*ℤ◌, neg_ℤ, ◌≤ℤ◌, ◌<ℤ◌, unsigned_abs, refl}
 
 -- a / b rounded down, below zero too
 unfoldable pub floored : ℤ → ℕ → ℤ
@@ -12,6 +12,11 @@ nearest_ℤ a b = floored (pos 2 *ℤ a +ℤ pos b) (2 * b)
 
 unfoldable pub nearest_ℕ : ℕ → ℕ → ℕ
 nearest_ℕ a b = unsigned_abs (nearest_ℤ (pos a) b)
+
+-- on naturals both are one
+pub nearest_ℕ_is_nearest_ℤ : (a b : ℕ) → pos (nearest_ℕ a b) ≡ nearest_ℤ (pos a) b
+unfolding nearest_ℕ nearest_ℤ floored
+nearest_ℕ_is_nearest_ℤ a b = refl
 
 -- a / b rounded up
 unfoldable pub round_up_ℤ : ℤ → ℕ → ℤ

@@ -1,11 +1,13 @@
 -- A term: what is refused, and its hours, intervals and days by place, counted from 0 at 00:00 of the first day.
-use Rattle.std.specs.Prelude.{◌≡◌, ℕ, ◌+◌, ◌-◌, ◌*◌, ◌/◌, ◌<◌, ◌≤◌, Bool, cond, ◌&&◌, Some, None, Ok, Err, Option, Result, nat_le, nat_lt}
+use Rattle.std.specs.Prelude.{◌≡◌, ℕ, ◌+◌, ◌-◌, ◌*◌, ◌/◌, ◌<◌, ◌≤◌, Bool, if◌then◌else◌, ◌&&◌, Some, None, Ok, Err, Option, Result, nat_le, nat_lt}
 use Rattle.calendar.specs.declared.dates.Date.{Date}
+use Rattle.calendar.specs.declared.spans.Span.{Span}
 use Rattle.calendar.specs.declared.terms.Term.{Term}
 use Rattle.calendar.specs.declared.terms.TermFault.{TermFault}
 use Rattle.calendar.specs.declared.terms.TermFault.TheVariants.{DateOrDays}
 use Rattle.calendar.specs.Days.{Day, within, lawful, calendar_days, day_at, day_number}
 use Rattle.calendar.specs.Dates.{day_of, number_of}
+use Rattle.calendar.specs.Spans.{places_a_day}
 
 -- A term as it is asked for.
 pub record TermDraft : Type 0 where
@@ -20,7 +22,7 @@ unfoldable pub lawful_term : TermDraft → Bool
 lawful_term t = lawful t.first && (within 1 92 t.days && nat_le (day_number t.first + t.days) calendar_days)
 
 abbrev pub first_fault : TermDraft → Option TermFault
-first_fault t = cond (lawful_term t) None (Some DateOrDays)
+first_fault t = if lawful_term t then None else Some DateOrDays
 
 -- a term is made exactly where there is no fault, with the first day and the days asked for
 abbrev pub TermOf : TermDraft → Result Term TermFault → Type 0
@@ -30,21 +32,17 @@ TermOf t (Err f) = first_fault t ≡ Some f
 abbrev pub fault_number : TermFault → ℕ
 fault_number DateOrDays = 1
 
-abbrev pub hours_of : Term → ℕ
-hours_of t = 24 * t.days
-
-abbrev pub intervals_of : Term → ℕ
-intervals_of t = 96 * t.days
+-- how many intervals, or hours, the term has
+abbrev pub places_of : Span → Term → ℕ
+places_of span t = places_a_day span * t.days
 
 -- the day of the term in which a place lies, where a day has that many places
 abbrev pub day_of_place : ℕ → Term → ℕ → Option ℕ
-day_of_place places t place = cond (nat_lt place (places * t.days)) (Some (place / places)) None
+day_of_place places t place = if nat_lt place (places * t.days) then Some (place / places) else None
 
-abbrev pub day_of_hour : Term → ℕ → Option ℕ
-day_of_hour = day_of_place 24
-
-abbrev pub day_of_interval : Term → ℕ → Option ℕ
-day_of_interval = day_of_place 96
+-- the day of the term in which an interval, or an hour, lies
+abbrev pub term_day : Span → Term → ℕ → Option ℕ
+term_day span = day_of_place (places_a_day span)
 
 -- the number of the first day and of the last
 abbrev pub first_number : Term → ℕ

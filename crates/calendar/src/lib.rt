@@ -4,18 +4,18 @@
 
 // The modules that declare types are public too.
 pub mod dates;
-mod day_numbers;
+mod held_laws;
 pub mod months;
-mod places;
-mod rounding;
+pub mod rounding;
+pub mod spans;
 pub mod terms;
 pub mod units;
 
 pub use dates::Date;
-pub use day_numbers::date_laws;
-pub use months::{Month, MonthSpan, month_laws};
-pub use places::term_laws;
-pub use rounding::{nearest, nearest_signed, round_up, rounding_laws};
+pub use held_laws::{date_laws, month_laws, rounding_laws, term_laws};
+pub use months::{Month, MonthSpan};
+pub use rounding::{Dividend, nearest, round_up};
+pub use spans::Span;
 pub use terms::{Term, TermFault};
 pub use units::{
     CentimetresPerSecond, Grams, Hectopascals, HundredthsPercent, Kilograms, Litres, Pascals,

@@ -1,14 +1,12 @@
-// The calendar months of a term: those that it touches, and those that lie in it whole.
-ghost use Rattle.std.specs.Prelude.{◌≡◌};
-ghost use Rattle.calendar.specs.Days.{Within};
-ghost use Rattle.calendar.specs.Dates.{day_of};
-ghost use Rattle.calendar.specs.Months.{month_index, touched_months, touched_month, month_span, MonthLaws};
+// Months of a year, and where a whole one lies in a term.
+ghost use Rattle.std.specs.Prelude.{◌≡◌, Some};
+ghost use Rattle.calendar.specs.Days.{Within, leap, month_length, days_before_month};
+ghost use Rattle.calendar.specs.Months.{month_text};
 
-use crate::dates::Date;
-use crate::day_numbers::month_length;
-use crate::terms::Term;
+use std::fmt;
+use std::fmt::{Display, Formatter, Write};
 
-// A month of a year.
+// A month of a year: any two numbers, also those of no month.
 #[derive(Clone, Copy, PartialEq, Eq, Debug)]
 pub struct Month {
     pub year: u16,
@@ -22,53 +20,48 @@ pub struct MonthSpan {
     pub days: usize,
 }
 
-// The month of a date, months counted from January 2000 as 0.
-fn month_index(date: Date) -> usize
-    ensures { result ≡ month_index (day_of date) }
+// Days before each month of a common year.
+const DAYS_BEFORE_MONTH: [u16; 12] = [0, 31, 59, 90, 120, 151, 181, 212, 243, 273, 304, 334];
+
+fn is_leap(year: u16) -> bool
+    ensures { result ≡ leap year }
 {
-    12 * (date.year - 2000) as usize + (date.month - 1) as usize
+    year % 4 == 0 && (year % 100 != 0 || year % 400 == 0)
 }
 
-impl Term {
-    // How many calendar months the term touches: one to five.
-    pub fn touched_months(self) -> usize
-        ensures count { result ≡ touched_months self }
-        ensures bound { Within 1 5 result }
+impl Month {
+    // Days of the month, 1 to 12.
+    #[tactic(auto, unfolding(crate::specs::Days::month_length))]
+    pub(crate) fn length(self) -> u8
+        ensures { result ≡ month_length self.year self.month }
     {
-        month_index(self.last()) + 1 - month_index(self.first)
+        match self.month {
+            2 => { if is_leap(self.year) { 29 } else { 28 } }
+            4 | 6 | 9 | 11 => 30,
+            _ => 31,
+        }
     }
 
-    // The touched month at a place, counted from 0, or none past the last.
-    pub fn touched_month(self, place: usize) -> Option<Month>
-        ensures { result ≡ touched_month self place }
+    // Days of the year before the month.
+    pub(crate) fn days_before(self) -> u16
+        requires { Within 1 12 self.month }
+        ensures { result ≡ days_before_month self.year self.month }
     {
-        if place >= self.touched_months() {
-            return None;
+        let days = DAYS_BEFORE_MONTH[self.month as usize - 1];
+        if self.month > 2 && is_leap(self.year) {
+            days + 1
+        } else {
+            days
         }
-        let index = month_index(self.first) + place;
-        let year = 2000 + (index / 12) as u16;
-        let month = (index % 12) as u8 + 1;
-        Some(Month { year, month })
-    }
-
-    // Where a month lies in the term, or none where it is no month from 2000 to 2099 or a day of it is outside the term.
-    pub fn month_span(self, year: u16, month: u8) -> Option<MonthSpan>
-        ensures { result ≡ month_span self year month }
-    {
-        let begin = Date::of(year, month, 1)?.number() as usize;
-        let days = month_length(year, month) as usize;
-        let term_begin = self.first.number() as usize;
-        if begin < term_begin || begin + days > term_begin + self.days as usize {
-            return None;
-        }
-        Some(MonthSpan {
-            first_day: begin - term_begin,
-            days,
-        })
     }
 }
 
-// Holds the laws of a term's months: which are touched, and what a whole month's days are.
-pub fn month_laws()
-    ensures { MonthLaws }
-{}
+// Year and month, as 2024-04.
+impl Display for Month {
+    ghost output = { λ m. Some (month_text m) };
+
+    fn fmt<W: Write>(&self, f: &mut Formatter<W>) -> Result<(), fmt::Error> {
+        let Month { year, month } = *self;
+        write!(f, "{year}-{month:02}")
+    }
+}

@@ -1,14 +1,13 @@
 // Prints what the calendar part answers over grids of cases. `stdout` has the same, worked by tools/calendar_cases.py.
 #![tactic(auto)]
 
-use calendar::{Date, Term, nearest, nearest_signed, round_up};
+use calendar::{Date, Month, Span, Term, nearest, round_up};
 use std::io;
 use std::num::NonZeroU64;
 
 // Every 37th day number, past the last one too: the date, the number again, and the date after.
-fn dates(rt: &HostRuntime) -> io::Result<()> {
-    for step in 0..990u16 {
-        let number = 37 * step;
+fn dates(rt: &impl Print) -> io::Result<()> {
+    for number in (0..36_630).step_by(37) {
         match Date::from_number(number) {
             Some(date) => one_date(rt, date)?,
             None => println!(rt; "{number} none")?,
@@ -17,7 +16,7 @@ fn dates(rt: &HostRuntime) -> io::Result<()> {
     Ok(())
 }
 
-fn one_date(rt: &HostRuntime, date: Date) -> io::Result<()> {
+fn one_date(rt: &impl Print, date: Date) -> io::Result<()> {
     let number = date.number();
     match date.next() {
         Some(after) => println!(rt; "{number} {date} {after}"),
@@ -26,7 +25,7 @@ fn one_date(rt: &HostRuntime, date: Date) -> io::Result<()> {
 }
 
 // Days around the ends of a month and of the calendar: which are dates.
-fn lawful_days(rt: &HostRuntime) -> io::Result<()> {
+fn lawful_days(rt: &impl Print) -> io::Result<()> {
     for year in [1999u16, 2000, 2023, 2024, 2099, 2100] {
         for month in 0..14u8 {
             for day in [0u8, 1, 28, 29, 30, 31, 32] {
@@ -40,7 +39,7 @@ fn lawful_days(rt: &HostRuntime) -> io::Result<()> {
 }
 
 // Terms from days of 2023 on: last day, counts, and each touched month with its place in the term where it is whole.
-fn terms(rt: &HostRuntime) -> io::Result<()> {
+fn terms(rt: &impl Print) -> io::Result<()> {
     for (month, day) in [
         (1u8, 31u8),
         (2, 1),
@@ -59,62 +58,55 @@ fn terms(rt: &HostRuntime) -> io::Result<()> {
     Ok(())
 }
 
-fn one_term(rt: &HostRuntime, year: u16, month: u8, day: u8, days: u8) -> io::Result<()> {
+fn one_term(rt: &impl Print, year: u16, month: u8, day: u8, days: u8) -> io::Result<()> {
     match Term::of(year, month, day, days) {
         Ok(term) => {
-            let first = term.first;
-            let last = term.last();
-            let hours = term.hours();
-            let intervals = term.intervals();
-            println!(rt; "{first} {days} {last} {hours} {intervals}")?;
+            println!(rt;
+                "{} {days} {} {} {}",
+                term.first,
+                term.last(),
+                term.places(Span::Hour),
+                term.places(Span::Interval)
+            )?;
             months(rt, term)?;
             places(rt, term)
         }
-        Err(fault) => {
-            let number = fault.number();
-            println!(rt; "{year} {month} {day} {days} fault {number}")
-        }
+        Err(fault) => println!(rt; "{year} {month} {day} {days} fault {}", fault.number()),
     }
 }
 
-fn months(rt: &HostRuntime, term: Term) -> io::Result<()> {
-    for place in 0..6 {
-        if let Some(touched) = term.touched_month(place) {
-            let year = touched.year;
-            let month = touched.month;
-            match term.month_span(year, month) {
-                Some(span) => {
-                    let first_day = span.first_day;
-                    let days = span.days;
-                    println!(rt; "{year} {month} {first_day} {days}")?;
-                }
-                None => println!(rt; "{year} {month} none")?,
-            }
+fn months(rt: &impl Print, term: Term) -> io::Result<()> {
+    for touched in (0..6).filter_map(|place| term.touched_month(place)) {
+        let Month { year, month } = touched;
+        match term.month_span(touched) {
+            Some(span) => println!(rt; "{year} {month} {} {}", span.first_day, span.days)?,
+            None => println!(rt; "{year} {month} none")?,
         }
     }
     Ok(())
 }
 
 // The days of the first and last places of the term, and of those past it.
-fn places(rt: &HostRuntime, term: Term) -> io::Result<()> {
+fn places(rt: &impl Print, term: Term) -> io::Result<()> {
     for place in [
         0,
         23,
         24,
         95,
         96,
-        term.hours() - 1,
-        term.hours(),
-        term.intervals() - 1,
-        term.intervals(),
+        term.places(Span::Hour) - 1,
+        term.places(Span::Hour),
+        term.places(Span::Interval) - 1,
+        term.places(Span::Interval),
     ] {
-        one_day(rt, term, term.day_of_hour(place))?;
-        one_day(rt, term, term.day_of_interval(place))?;
+        for span in [Span::Hour, Span::Interval] {
+            one_day(rt, term, term.day_of(span, place))?;
+        }
     }
     Ok(())
 }
 
-fn one_day(rt: &HostRuntime, term: Term, day: Option<usize>) -> io::Result<()> {
+fn one_day(rt: &impl Print, term: Term, day: Option<usize>) -> io::Result<()> {
     if let Some(day) = day
         && let Some(date) = term.date(day)
     {
@@ -124,7 +116,7 @@ fn one_day(rt: &HostRuntime, term: Term, day: Option<usize>) -> io::Result<()> {
 }
 
 // Rounded quotients: all small ones, and the ends of the integers.
-fn quotients(rt: &HostRuntime) -> io::Result<()> {
+fn quotients(rt: &impl Print) -> io::Result<()> {
     for b in 1..13u64 {
         for a in 0..40u64 {
             one_quotient(rt, a, b)?;
@@ -138,13 +130,13 @@ fn quotients(rt: &HostRuntime) -> io::Result<()> {
     Ok(())
 }
 
-fn one_quotient(rt: &HostRuntime, a: u64, b: u64) -> io::Result<()> {
+fn one_quotient(rt: &impl Print, a: u64, b: u64) -> io::Result<()> {
     let Some(divisor) = NonZeroU64::new(b) else {
         return Ok(());
     };
     let near = nearest(a, divisor);
     let up = round_up(a, divisor);
-    let below = nearest_signed(-((a / 2) as i64), divisor);
+    let below = nearest(-((a / 2) as i64), divisor);
     println!(rt; "{a} {b} {near} {up} {below}")
 }
 

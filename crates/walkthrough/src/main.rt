@@ -1,94 +1,89 @@
 // Goes through a task of the library from beginning to end, and prints each step in plain sentences.
 #![tactic(auto)]
 
-use calendar::{Grams, Hectopascals, Kilograms, Term, nearest, nearest_signed, round_up};
+use calendar::{Grams, Hectopascals, Kilograms, Month, Span, Term, nearest, round_up};
 use std::io;
 use std::num::NonZeroU64;
 
-fn show_term(rt: &HostRuntime, term: Term) -> io::Result<()> {
-    let first = term.first;
-    let last = term.last();
-    let days = term.days;
-    let hours = term.hours();
-    let intervals = term.intervals();
+fn show_term(rt: &impl Print, term: Term) -> io::Result<()> {
     println!(rt;
-        "It runs from {first} to {last}. Days: {days}. Hours: {hours}. Intervals of 15 minutes: {intervals}."
+        "It runs from {} to {}. Days: {}. Hours: {}. Intervals of 15 minutes: {}.",
+        term.first,
+        term.last(),
+        term.days,
+        term.places(Span::Hour),
+        term.places(Span::Interval)
     )?;
     show_months(rt, term)
 }
 
-fn show_months(rt: &HostRuntime, term: Term) -> io::Result<()> {
+fn show_months(rt: &impl Print, term: Term) -> io::Result<()> {
     let count = term.touched_months();
     println!(rt; "Calendar months that it touches: {count}.")?;
-    for place in 0..count {
-        if let Some(month) = term.touched_month(place) {
-            show_month(rt, term, month.year, month.month)?;
-        }
+    for month in (0..count).filter_map(|place| term.touched_month(place)) {
+        show_month(rt, term, month)?;
     }
     Ok(())
 }
 
-fn show_month(rt: &HostRuntime, term: Term, year: u16, month: u8) -> io::Result<()> {
-    match term.month_span(year, month) {
-        Some(span) => {
-            let first_day = span.first_day;
-            let days = span.days;
-            println!(rt;
-                "  {year}-{month:02} lies in it whole: its {days} days begin on day {first_day} of the term."
-            )
-        }
-        None => println!(rt; "  {year}-{month:02} lies in it in part."),
+fn show_month(rt: &impl Print, term: Term, month: Month) -> io::Result<()> {
+    match term.month_span(month) {
+        Some(span) => println!(rt;
+            "  {month} lies in it whole: its {} days begin on day {} of the term.",
+            span.days, span.first_day
+        ),
+        None => println!(rt; "  {month} lies in it in part."),
     }
 }
 
-fn ask_for_term(rt: &HostRuntime, year: u16, month: u8, day: u8, days: u8) -> io::Result<()> {
+// The day that is asked for need not be a date.
+fn ask_for_term(rt: &impl Print, year: u16, month: u8, day: u8, days: u8) -> io::Result<()> {
     println!(rt; "A term is asked for. First day: {year}-{month:02}-{day:02}. Days: {days}.")?;
     match Term::of(year, month, day, days) {
         Ok(term) => show_term(rt, term),
-        Err(fault) => {
-            let number = fault.number();
-            println!(rt;
-                "Refused with fault {number}: the date or the number of days is out of range."
-            )
-        }
+        Err(fault) => println!(rt;
+            "Refused with fault {}: the date or the number of days is out of range.",
+            fault.number()
+        ),
     }
 }
 
-fn show_places(rt: &HostRuntime, term: Term) -> io::Result<()> {
-    if let Some(day) = term.day_of_interval(100)
-        && let Some(date) = term.date(day)
-    {
-        println!(rt; "Interval 100 lies in day {day} of the term, {date}.")?;
-    }
-    if let Some(day) = term.day_of_hour(2207)
-        && let Some(date) = term.date(day)
-    {
-        println!(rt; "Hour 2207 lies in day {day} of the term, {date}.")?;
+fn show_places(rt: &impl Print, term: Term) -> io::Result<()> {
+    for (name, span, place) in [
+        ("Interval", Span::Interval, 100),
+        ("Hour", Span::Hour, 2207),
+    ] {
+        if let Some(day) = term.day_of(span, place)
+            && let Some(date) = term.date(day)
+        {
+            println!(rt; "{name} {place} lies in day {day} of the term, {date}.")?;
+        }
     }
     Ok(())
 }
 
-fn show_rounding(rt: &HostRuntime) -> io::Result<()> {
+fn show_rounding(rt: &impl Print) -> io::Result<()> {
     let two = NonZeroU64::new(2).unwrap();
-    let below_zero = nearest_signed(-5 - 6, two);
-    let above_zero = nearest(5 + 6, two);
     println!(rt;
-        "Half-way cases round up: the mean of -5 and -6 is {below_zero}, the mean of 5 and 6 is {above_zero}."
+        "Half-way cases round up: the mean of -5 and -6 is {}, the mean of 5 and 6 is {}.",
+        nearest(-5i64 - 6, two),
+        nearest(5u64 + 6, two)
     )?;
     let quarter = round_up(70_000_001, NonZeroU64::new(4).unwrap());
     println!(rt; "A quarter of 70000001, rounded up, is {quarter}.")
 }
 
-fn show_units(rt: &HostRuntime) -> io::Result<()> {
-    let weighed = Kilograms(8u32).to_grams();
-    let sum = weighed + Grams(500);
-    let Grams(grams) = sum;
-    let Kilograms(kilograms) = sum.to_nearest_kilograms();
-    let air = Hectopascals(1013).to_pascals().0;
+fn show_units(rt: &impl Print) -> io::Result<()> {
+    let sum = Kilograms(8u32).to_grams() + Grams(500);
     println!(rt;
-        "8 kilograms and 500 grams are {grams} grams, to the nearest {kilograms} kilograms."
+        "8 kilograms and 500 grams are {} grams, to the nearest {} kilograms.",
+        sum.0,
+        sum.to_nearest_kilograms().0
     )?;
-    println!(rt; "An air pressure of 1013 hectopascals is {air} pascals.")
+    println!(rt;
+        "An air pressure of 1013 hectopascals is {} pascals.",
+        Hectopascals(1013).to_pascals().0
+    )
 }
 
 fn main(rt: HostRuntime) -> io::Result<()> {
