@@ -172,3 +172,6 @@ day_laws = record {
   earlier = earlier;
   numbers_earlier = numbers_earlier;
 }
+
+-- where the year, the month and the day of a number lie
+pub ruleset days_found = (year_found, month_over, few_days)

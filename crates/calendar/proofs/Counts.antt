@@ -1,9 +1,8 @@
 -- Days of years and of months, counted.
 use Rattle.std.proofs.Common.{◌≡◌, ℕ, zero, suc, ◌+◌, ◌-◌, ◌*◌, ◌/◌, ◌%◌, ◌<◌, ◌≤◌, Bool, true, false, cond, ◌&&◌, eqb, ltb, List, get_or, sym, refl, ◌∙◌, subst, inl, inr, le_refl, add-zero, arith}
-use Rattle.std.proofs.lemmas.Bool.{and_parts, cases_eq, eqb-true, false≢true}
+use Rattle.std.proofs.lemmas.Bool.{agree_below, agree_below_at, and_parts, cases_eq, eqb-true, false≢true}
 use Rattle.std.proofs.lemmas.Bool.Decides.{nat_tests}
 use Rattle.calendar.specs.Days.{leap, length_of_month, length_of_months, length_of_years}
-use Rattle.calendar.proofs.Tables.{every_below, at_each}
 
 -- from 2000 to 2099 every fourth year is a leap year
 fourth : (k : ℕ) → k < 100 → leap (2000 + k) ≡ eqb (k % 4) 0
@@ -22,9 +21,9 @@ abbrev pub right_at : List ℕ → ℕ → Bool
 right_at table i =
     eqb (get_or table i 0) (length_of_months false i) && eqb (get_or table i 0 + cond (ltb 1 i) 1 0) (length_of_months true i)
 
-module _ (table : List ℕ) (e : every_below (right_at table) 12 ≡ true) (k : ℕ) (h : k < 12) where
+module _ (table : List ℕ) (e : agree_below (right_at table) (λ _. true) 12 ≡ true) (k : ℕ) (h : k < 12) where
   right : (eqb (get_or table k 0) (length_of_months false k) ≡ true) × (eqb (get_or table k 0 + cond (ltb 1 k) 1 0) (length_of_months true k) ≡ true)
-  right = and_parts (eqb (get_or table k 0) (length_of_months false k)) _ (at_each (right_at table) 12 e k h)
+  right = and_parts (eqb (get_or table k 0) (length_of_months false k)) _ (agree_below_at (right_at table) (λ _. true) 12 k e h)
 
   pub with_leap_day : (long : Bool) → (long && ltb 1 k) ≡ true → get_or table k 0 + 1 ≡ length_of_months long k
   with_leap_day true l = subst (λ (t : Bool). get_or table k 0 + cond t 1 0 ≡ length_of_months true k) l (eqb-true _ _ right.1)
@@ -53,3 +52,6 @@ months_grow long i (suc j) h =
 
 pub years_grow : (i j : ℕ) → i ≤ j → j ≤ 100 → length_of_years i ≤ length_of_years j
 years_grow i j h l = omega (arith, years_closed i (omega arith), years_closed j l)
+
+-- what the table of days before each month says
+pub ruleset leap_days = (with_leap_day, without_leap_day, nat_tests)

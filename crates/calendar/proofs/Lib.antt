@@ -1,6 +1,5 @@
 mod Quotients
 mod Rounds
-mod Tables
 mod Counts
 mod Calendars
 mod Texts

@@ -106,11 +106,11 @@ module _ (t : Term) where
   last_lawful : Lawful (day_at (last_number t))
   last_lawful = day_lawful (t.days - 1) (omega arith)
 
-  in_order : month_index (day_of t.first) ≤ month_index (day_at (last_number t))
+  pub in_order : month_index (day_of t.first) ≤ month_index (day_at (last_number t))
   in_order = not_before (t.days - 1) (omega arith)
 
   -- four whole months, of 28 days or more, do not fit between a term's first and last day
-  few_months : month_index (day_at (last_number t)) < month_index (day_of t.first) + 5
+  pub few_months : month_index (day_at (last_number t)) < month_index (day_of t.first) + 5
   few_months =
       let i = month_index (day_of t.first) in
       let j = month_index (day_at (last_number t)) in
@@ -202,3 +202,6 @@ module _ (t : Term) where
 
 pub month_laws : MonthLaws
 month_laws = record { one_to_five = one_to_five; touched = touched; all_touched = all_touched; spans = spans; whole = whole }
+
+-- the month of the last day is not before that of the first, and at most four after it
+pub ruleset few_in_order = (in_order, few_months)

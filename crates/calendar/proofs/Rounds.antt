@@ -1,8 +1,9 @@
 -- The laws of rounding.
 use Rattle.std.proofs.Common.{◌≡◌, ℕ, zero, suc, ◌+◌, ◌*◌, ◌/◌, ◌%◌, ◌<◌, ◌≤◌, min, ℤ, pos, negsuc, ◌+ℤ◌, ◌*ℤ◌, neg_ℤ, nat_abs, ◌≤ℤ◌, ◌<ℤ◌, refl, ap, subst, add-zero, mul_assoc, mul_comm, le_antisymm, mul-le-mul_left, mul-suc, arith, w64, SFits}
 use native.Mathlib.Nat.{div-add-mod, le_of_mul-le-mul_left, lt_of_mul-lt-mul_left}
+use Rattle.std.proofs.Math.IntN.{*ℤ_comm}
 use Rattle.std.proofs.lemmas.Nat.{mod_below}
-use Rattle.std.proofs.lemmas.Int.{ints}
+use Rattle.std.proofs.lemmas.Int.{ints, to_z-of_z}
 use Rattle.calendar.specs.Rounding.{floored, nearest_ℤ, nearest_ℕ, round_up_ℤ, round_up_ℕ, NearestLaws, HalfGoesUp, RoundUpLaws}
 use Rattle.calendar.proofs.Quotients.{floored_is, floored_only, floored_grows, floored_most, mul_neg}
 
@@ -111,16 +112,12 @@ up_grows_ℤ a c b h l = least_ℤ a (round_up_ℤ c b) b h (let p = covers_ℤ 
 cancel : (x y : ℤ) (b : ℕ) → 0 < b → (pos b *ℤ x) ≤ℤ (pos b *ℤ y) → x ≤ℤ y
 cancel x y b h l = let k = floored_most (pos b *ℤ y) x b h l in let e = floored_only (pos b *ℤ y) y b h (omega (arith, ints)) (omega (arith, ints)) in omega (arith, ints)
 
-swap : (b : ℕ) (q : ℤ) → q *ℤ pos b ≡ pos b *ℤ q
-swap b (pos q) = ap pos (mul_comm q b)
-swap b (negsuc q) = let e = mul_comm (suc q) b in omega (arith, ints)
-
 antisym : (x y : ℤ) → x ≤ℤ y → y ≤ℤ x → x ≡ y
 antisym x y l m = omega (arith, ints)
 
 up_exact_ℤ : (q : ℤ) (b : ℕ) → 0 < b → round_up_ℤ (q *ℤ pos b) b ≡ q
 up_exact_ℤ q b h =
-    let e = swap b q in
+    let e = *ℤ_comm q (pos b) in
     let c = covers_ℤ (q *ℤ pos b) b h in
     antisym (round_up_ℤ (q *ℤ pos b) b) q (least_ℤ (q *ℤ pos b) q b h (omega (arith, ints)))
     (cancel q (round_up_ℤ (q *ℤ pos b) b) b h (omega (arith, ints)))
@@ -183,3 +180,12 @@ ceil_by_rest a b (suc m) e h =
 
 pub ceil_rounds_up : (a b : ℕ) → 0 < b → a / b + min 1 (a % b) ≡ round_up_ℕ a b
 ceil_rounds_up a b h = ceil_by_rest a b (a % b) refl h
+
+-- a rounded u64 is a u64, and the rounded natural
+pub nearest_natural : (a b : ℕ) → 0 < b → (nearest_ℤ (pos a) b ≡ pos (nearest_ℕ a b)) × (nearest_ℕ a b ≤ a)
+nearest_natural a b h = (natural a b h, at_most_ℕ a b h a (omega (arith, mul-le-mul_left a h)))
+
+-- what a dividend of 64 bits is rounded to
+pub ruleset unsigned_quotients = (ints, to_z-of_z, nearest_natural)
+
+pub ruleset signed_quotients = (ints, to_z-of_z, nearest_fits)

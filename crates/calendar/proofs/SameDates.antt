@@ -1,5 +1,5 @@
 -- Dates with equal days are equal, and what the calls that make dates answer.
-use Rattle.std.proofs.Common.{◌≡◌, ℕ, ◌+◌, true, Some, None, Option, sym, ap, ◌∙◌, subst, inl, inr, arith}
+use Rattle.std.proofs.Common.{◌≡◌, ℕ, ◌+◌, ◌<◌, true, Some, None, Option, sym, ap, ◌∙◌, subst, inl, inr, arith}
 use mathlib.Core.HLevel.{×_prop, ×₃_prop, Σ_prop_path}
 use native.Mathlib.Bridge.{le_prop}
 use Rattle.std.proofs.lemmas.Bool.{both_ways, cases_eq}
@@ -28,10 +28,13 @@ same_day : (d e : Date) → day_of d ≡ day_of e → d ≡ e
 unfolding made lawful
 same_day d e h = ap made (Σ_prop_path one_proof {u = (day_of d, lawful d)} {v = (day_of e, lawful e)} h)
 
+pub number_below : (d : Date) → number_of d < calendar_days
+number_below d = day_laws.number_below (day_of d) (lawful d)
+
 pub date_laws : DateLaws
 date_laws = record {
   lawful = lawful;
-  number_below = λ d. day_laws.number_below (day_of d) (lawful d);
+  number_below = number_below;
   same_day = same_day;
   same_number = λ d e h. same_day d e (day_laws.same (day_of d) (day_of e) (lawful d) (lawful e) h);
 }

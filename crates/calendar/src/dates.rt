@@ -68,6 +68,7 @@ impl Date {
     }
 
     // Days since 2000-01-01.
+    #[tactic(auto, using(crate::proofs::SameDates::number_below), unfolding(crate::specs::Days::day_number))]
     pub fn number(self) -> u16
         ensures value { result ≡ number_of self }
         ensures bound { result < calendar_days }
@@ -76,6 +77,7 @@ impl Date {
     }
 
     // The date with a number, or none past 2099-12-31.
+    #[tactic(auto, using(crate::proofs::Calendars::days_found))]
     pub fn from_number(number: u16) -> Option<Date>
         ensures day { DateOfNumber number result }
         ensures back { (d : Dated) → number_of d ≡ number → result ≡ Some d }
@@ -92,6 +94,7 @@ impl Date {
     }
 
     // The date after, or none after 2099-12-31.
+    #[tactic(auto, using(crate::proofs::SameDates::after_is, std::proofs::lemmas::Bool::Decides::nat_tests))]
     pub fn next(self) -> Option<Date>
         ensures { DateAfter self result }
     {
@@ -129,6 +132,7 @@ impl Display for Date {
 
     ghost output = { λ d. Some (date_text d) };
 
+    #[tactic(auto, using(crate::proofs::Texts::styled_is_two_digits, crate::proofs::Calendars::few_days))]
     fn fmt<W: Write>(&self, f: &mut Formatter<W>) -> Result<(), fmt::Error> {
         write!(f, "{}-{:02}-{:02}", self.year, self.month, self.day)
     }

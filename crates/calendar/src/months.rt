@@ -43,6 +43,7 @@ impl Month {
     }
 
     // Days of the year before the month.
+    #[tactic(auto, using(crate::proofs::Counts::leap_days), unfolding(crate::specs::Days::days_before_month, crate::specs::Days::length_of_months))]
     pub(crate) fn days_before(self) -> u16
         requires { Within 1 12 self.month }
         ensures { result ≡ days_before_month self.year self.month }
@@ -60,6 +61,7 @@ impl Month {
 impl Display for Month {
     ghost output = { λ m. Some (month_text m) };
 
+    #[tactic(auto, using(crate::proofs::Texts::styled_is_two_digits))]
     fn fmt<W: Write>(&self, f: &mut Formatter<W>) -> Result<(), fmt::Error> {
         let Month { year, month } = *self;
         write!(f, "{year}-{month:02}")

@@ -38,6 +38,7 @@ impl Dividend for u64 {
 
     ghost rounds = { λ a b _. nearest_ℕ_is_nearest_ℤ a b };
 
+    #[tactic(auto, using(crate::proofs::Rounds::unsigned_quotients))]
     fn nearest(self, divisor: NonZeroU64) -> u64 {
         nearest_integer(i128::from(self), divisor) as u64
     }
@@ -50,6 +51,7 @@ impl Dividend for i64 {
 
     ghost rounds = { λ _ _ _. refl };
 
+    #[tactic(auto, using(crate::proofs::Rounds::signed_quotients))]
     fn nearest(self, divisor: NonZeroU64) -> i64 {
         nearest_integer(i128::from(self), divisor) as i64
     }

@@ -87,6 +87,7 @@ impl Term {
     }
 
     // How many calendar months the term touches: one to five.
+    #[tactic(auto, using(crate::proofs::MonthsOfTerm::few_in_order), unfolding(crate::specs::Months::touched_months))]
     pub fn touched_months(self) -> usize
         ensures count { result ≡ touched_months self }
         ensures bound { Within 1 5 result }

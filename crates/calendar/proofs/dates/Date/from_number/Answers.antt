@@ -1,6 +1,6 @@
 use Rattle.std.proofs.Common.{◌≡◌, ℕ, ◌+◌, ◌-◌, ◌*◌, ◌/◌, None, arith}
 use Rattle.calendar.specs.Days.{Day, Lawful, day_number}
-use Rattle.calendar.proofs.Calendars.{few_days, month_over, year_found}
+use Rattle.calendar.proofs.Calendars.{month_over, year_found}
 use Rattle.calendar.proofs.SameDates.{number_is, number_only}
 use Rattle.calendar.proofs.dates.Date.from_number.Goals as goal
 
@@ -9,20 +9,6 @@ year n = 2000 + 4 * n / 1461
 
 pub returns-then-number-ge-CALENDAR_DAYS : goal.returns-then-number-ge-CALENDAR_DAYS
 returns-then-number-ge-CALENDAR_DAYS c = record { day = omega arith; back = number_only c.args.number None (omega arith) }
-
-pub overflow_sub-day_of_year : goal.overflow_sub-day_of_year
-overflow_sub-day_of_year c = omega (arith, year_found c.args.number (omega arith))
-
-pub month_of_day-month-requires : goal.month_of_day-month-requires
-month_of_day-month-requires c = omega (arith, year_found c.args.number (omega arith))
-
-pub overflow_cast-day : goal.overflow_cast-day
-overflow_cast-day c =
-    omega (arith, year_found c.args.number (omega arith), month_over (year c.args.number) c.month_of_day-month.result (omega arith), few_days (year c.args.number) c.month_of_day-month.result)
-
-pub overflow_add-day : goal.overflow_add-day
-overflow_add-day c =
-    omega (arith, year_found c.args.number (omega arith), month_over (year c.args.number) c.month_of_day-month.result (omega arith), few_days (year c.args.number) c.month_of_day-month.result)
 
 pub returns : goal.returns
 unfolding day_number
