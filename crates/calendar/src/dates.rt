@@ -67,7 +67,7 @@ impl Date {
         Some(Date { year, month, day })
     }
 
-    // Days since 2000-01-01.
+    // Days since 2000-01-01. (No `From`, here and below: a bare number does not say what it counts.)
     #[tactic(auto, using(crate::proofs::SameDates::number_below), unfolding(crate::specs::Days::day_number))]
     pub fn number(self) -> u16
         ensures value { result ≡ number_of self }

@@ -23,6 +23,7 @@ pub enum TermFault {
     DateOrDays,
 }
 
+// Each fault type has its own `match` of numbers: a trait for them would have the same bodies.
 impl TermFault {
     ghost use Rattle.calendar.specs.Terms.{fault_number};
 
@@ -39,7 +40,8 @@ impl Term {
     ghost use Rattle.calendar.specs.Terms.{TermOf, places_of, term_day, last_number, DateOfTermDay};
     ghost use Rattle.calendar.specs.Months.{touched_months, touched_month, month_span};
 
-    // The term that begins on a day and has that many days, or fault 1.
+    // The term that begins on a day and has that many days, or fault 1. Three numbers name the day, as in `Date::of`: a struct
+    // of them, for a day that may be none, would be made and taken apart at once.
     #[tactic(auto, unfolding(crate::specs::Terms::lawful_term))]
     pub fn of(year: u16, month: u8, day: u8, days: u8) -> Result<Term, TermFault>
         ensures { TermOf (record { first = record { year = year; month = month; day = day }; days = days }) result }

@@ -1,4 +1,5 @@
-// The units of the method, each a type of its own around an integer. Only the conversions named here pass between them.
+// The units of the method, each a type of its own around an integer, however alike, so that none is taken for another.
+// Only the conversions named here pass between them. They are no `From`: an `into` would not show the units.
 // The integer has the width that records and files have; a conversion or a sum that needs more has a wider one.
 ghost use Rattle.std.specs.Prelude.{◌≡◌, ◌+◌, ◌*◌, ◌^◌, ◌<◌, pos};
 ghost use Rattle.calendar.specs.Rounding.{nearest_ℕ};

@@ -7,6 +7,36 @@ pub struct Draws {
     pub state: u64,
 }
 
+// For each quantity the least number, and how much more the greatest is.
+pub struct Ranges {
+    co2: (u16, u16),
+    moisture: (u16, u16),
+    speed: (u16, u16),
+    temperature: (i16, u16),
+    static_pressure: (i16, u16),
+    air_pressure: (u16, u16),
+}
+
+// The whole of the ranges of a valid minute.
+pub const WIDE: Ranges = Ranges {
+    co2: (0, 3000),
+    moisture: (0, 4000),
+    speed: (0, 6000),
+    temperature: (-400, 3400),
+    static_pressure: (-10_000, 20_000),
+    air_pressure: (500, 600),
+};
+
+// Numbers that differ by little, some around 0: their means are often halves.
+pub const NARROW: Ranges = Ranges {
+    co2: (1200, 1),
+    moisture: (0, 1),
+    speed: (999, 1),
+    temperature: (-3, 3),
+    static_pressure: (-2, 3),
+    air_pressure: (1013, 1),
+};
+
 impl Draws {
     // The upper 31 bits of the next state.
     pub fn next(&mut self) -> u64 {
@@ -17,8 +47,32 @@ impl Draws {
         self.state / 8_589_934_592
     }
 
+    // A number that is at most so much.
+    fn at_most(&mut self, most: u16) -> u16 {
+        (self.next() % (u64::from(most) + 1)) as u16
+    }
+
+    fn unsigned(&mut self, (least, more): (u16, u16)) -> u16 {
+        least.wrapping_add(self.at_most(more))
+    }
+
+    fn signed(&mut self, (least, more): (i16, u16)) -> i16 {
+        least.wrapping_add_unsigned(self.at_most(more))
+    }
+
+    fn within(&mut self, ranges: &Ranges) -> Quantities {
+        Quantities {
+            co2: HundredthsPercent(self.unsigned(ranges.co2)),
+            moisture: HundredthsPercent(self.unsigned(ranges.moisture)),
+            speed: CentimetresPerSecond(self.unsigned(ranges.speed)),
+            temperature: TenthsCelsius(self.signed(ranges.temperature)),
+            static_pressure: Pascals(self.signed(ranges.static_pressure)),
+            air_pressure: Hectopascals(self.unsigned(ranges.air_pressure)),
+        }
+    }
+
     // Any 15 bits, with a sign.
-    fn signed(&mut self) -> i16 {
+    fn any_signed(&mut self) -> i16 {
         let magnitude = (self.next() % 32_768) as i16;
         if self.next() % 2 == 0 {
             magnitude
@@ -27,39 +81,15 @@ impl Draws {
         }
     }
 
-    // Quantities over the whole of their ranges.
-    fn wide(&mut self) -> Quantities {
-        Quantities {
-            co2: HundredthsPercent((self.next() % 3001) as u16),
-            moisture: HundredthsPercent((self.next() % 4001) as u16),
-            speed: CentimetresPerSecond((self.next() % 6001) as u16),
-            temperature: TenthsCelsius((self.next() % 3401) as i16 - 400),
-            static_pressure: Pascals((self.next() % 20_001) as i16 - 10_000),
-            air_pressure: Hectopascals((self.next() % 601) as u16 + 500),
-        }
-    }
-
-    // Quantities that differ by little, some around 0: their means are often halves.
-    fn narrow(&mut self) -> Quantities {
-        Quantities {
-            co2: HundredthsPercent((self.next() % 2) as u16 + 1200),
-            moisture: HundredthsPercent((self.next() % 2) as u16),
-            speed: CentimetresPerSecond((self.next() % 2) as u16 + 999),
-            temperature: TenthsCelsius((self.next() % 4) as i16 - 3),
-            static_pressure: Pascals((self.next() % 4) as i16 - 2),
-            air_pressure: Hectopascals((self.next() % 2) as u16 + 1013),
-        }
-    }
-
     // Numbers that are mostly out of range, for the minutes that are not valid.
     fn unchecked(&mut self) -> Quantities {
         Quantities {
-            co2: HundredthsPercent((self.next() % 65_536) as u16),
-            moisture: HundredthsPercent((self.next() % 65_536) as u16),
-            speed: CentimetresPerSecond((self.next() % 65_536) as u16),
-            temperature: TenthsCelsius(self.signed()),
-            static_pressure: Pascals(self.signed()),
-            air_pressure: Hectopascals((self.next() % 65_536) as u16),
+            co2: HundredthsPercent(self.at_most(u16::MAX)),
+            moisture: HundredthsPercent(self.at_most(u16::MAX)),
+            speed: CentimetresPerSecond(self.at_most(u16::MAX)),
+            temperature: TenthsCelsius(self.any_signed()),
+            static_pressure: Pascals(self.any_signed()),
+            air_pressure: Hectopascals(self.at_most(u16::MAX)),
         }
     }
 
@@ -77,12 +107,11 @@ impl Draws {
     }
 
     // A reading that is valid in so many cases of ten.
-    pub fn reading(&mut self, valid_of_ten: u64, spread: bool) -> RawReading {
+    pub fn reading(&mut self, valid_of_ten: u64, ranges: &Ranges) -> RawReading {
         if self.next() % 10 < valid_of_ten {
-            let quantities = if spread { self.wide() } else { self.narrow() };
             return RawReading {
                 mark: 'V',
-                quantities,
+                quantities: self.within(ranges),
             };
         }
         let mark = self.invalid_mark();

@@ -5,25 +5,18 @@ use stack::{HourFault, Mark, Quantities, RawReading, Reading, StackHour, StackSe
 use std::io;
 
 // Every character of ASCII as a mark.
-pub fn marks(rt: &HostRuntime) -> io::Result<()> {
+pub fn marks(rt: &impl Print) -> io::Result<()> {
     for code in 0..128u8 {
-        match Mark::of(code as char) {
-            Ok(mark) => {
-                let letter = mark.letter();
-                let valid = mark.is_valid();
-                println!(rt; "mark {code} {letter} {valid}")?;
-            }
-            Err(fault) => {
-                let number = fault.number();
-                println!(rt; "mark {code} fault {number}")?;
-            }
+        match Mark::try_from(code as char) {
+            Ok(mark) => println!(rt; "mark {code} {} {}", mark.letter(), mark.is_valid())?,
+            Err(fault) => println!(rt; "mark {code} fault {}", fault.number())?,
         }
     }
     Ok(())
 }
 
 // Settings at the ends of their ranges.
-pub fn settings(rt: &HostRuntime) -> io::Result<()> {
+pub fn settings(rt: &impl Print) -> io::Result<()> {
     for area in [0u16, 1, 20_000, 20_001, 65_535] {
         for factor in [0u16, 1, 20_000, 20_001, 65_535] {
             for letter in ['W', 'D', 'w', 'X'] {
@@ -34,117 +27,150 @@ pub fn settings(rt: &HostRuntime) -> io::Result<()> {
     Ok(())
 }
 
-fn one_stack(rt: &HostRuntime, area: u16, factor: u16, letter: char) -> io::Result<()> {
+fn one_stack(rt: &impl Print, area: u16, factor: u16, letter: char) -> io::Result<()> {
     match StackSettings::of(area, factor, letter) {
-        Ok(settings) => {
-            let basis = settings.basis.letter();
-            println!(rt;
-                "settings {} {} {basis}",
-                settings.area, settings.speed_factor
-            )
-        }
-        Err(fault) => {
-            let number = fault.number();
-            println!(rt; "settings {area} {factor} {letter} fault {number}")
-        }
+        Ok(settings) => println!(rt;
+            "settings {} {} {}",
+            settings.area,
+            settings.speed_factor,
+            settings.basis.letter()
+        ),
+        Err(fault) => println!(rt;
+            "settings {area} {factor} {letter} fault {}",
+            fault.number()
+        ),
     }
 }
 
-fn judge(rt: &HostRuntime, raw: &RawReading) -> io::Result<()> {
-    let mark = raw.mark;
-    match Reading::of(raw) {
-        Ok(reading) => {
-            let letter = reading.mark.letter();
-            println!(rt; "reading {letter} kept")
-        }
-        Err(fault) => {
-            let number = fault.number();
-            println!(rt; "reading {mark} fault {number}")
-        }
+fn judge(rt: &impl Print, raw: RawReading) -> io::Result<()> {
+    match Reading::try_from(raw) {
+        Ok(reading) => println!(rt; "reading {} kept", reading.mark.letter()),
+        Err(fault) => println!(rt; "reading {} fault {}", raw.mark, fault.number()),
     }
 }
 
-fn judge_marks(rt: &HostRuntime, quantities: Quantities) -> io::Result<()> {
+fn judge_marks(rt: &impl Print, quantities: Quantities) -> io::Result<()> {
     for mark in ['V', 'P', 'v'] {
-        judge(rt, &RawReading { mark, quantities })?;
+        judge(rt, RawReading { mark, quantities })?;
+    }
+    Ok(())
+}
+
+// Readings that differ from the sample in one quantity, which takes each of these numbers.
+fn judge_each<N: Copy, F: Fn(N) -> Quantities>(
+    rt: &impl Print,
+    numbers: &[N],
+    with: F,
+) -> io::Result<()>
+    requires { F.IsAlwaysCallable with }
+{
+    for &number in numbers {
+        judge_marks(rt, with(number))?;
     }
     Ok(())
 }
 
 // Each quantity at both ends of its range and just past them, the others as in the sample.
-pub fn ranges(rt: &HostRuntime) -> io::Result<()> {
-    let mut quantities = sample().quantities;
-    for number in [0u16, 3000, 3001, 65_535] {
-        quantities.co2 = HundredthsPercent(number);
-        judge_marks(rt, quantities)?;
-    }
-    quantities = sample().quantities;
-    for number in [0u16, 4000, 4001, 65_535] {
-        quantities.moisture = HundredthsPercent(number);
-        judge_marks(rt, quantities)?;
-    }
-    quantities = sample().quantities;
-    for number in [0u16, 6000, 6001, 65_535] {
-        quantities.speed = CentimetresPerSecond(number);
-        judge_marks(rt, quantities)?;
-    }
-    more_ranges(rt)
+pub fn ranges(rt: &impl Print) -> io::Result<()> {
+    let sample = sample().quantities;
+    judge_each(
+        rt,
+        &[0, 3000, 3001, 65_535],
+        |number| Quantities {
+            co2: HundredthsPercent(number),
+            ..sample
+        },
+    )?;
+    judge_each(
+        rt,
+        &[0, 4000, 4001, 65_535],
+        |number| Quantities {
+            moisture: HundredthsPercent(number),
+            ..sample
+        },
+    )?;
+    judge_each(
+        rt,
+        &[0, 6000, 6001, 65_535],
+        |number| Quantities {
+            speed: CentimetresPerSecond(number),
+            ..sample
+        },
+    )?;
+    judge_each(
+        rt,
+        &[-32_768, -401, -400, 3000, 3001, 32_767],
+        |number| Quantities {
+            temperature: TenthsCelsius(number),
+            ..sample
+        },
+    )?;
+    judge_each(
+        rt,
+        &[-32_768, -10_001, -10_000, 10_000, 10_001, 32_767],
+        |number| Quantities {
+            static_pressure: Pascals(number),
+            ..sample
+        },
+    )?;
+    judge_each(
+        rt,
+        &[0, 499, 500, 1100, 1101, 65_535],
+        |number| Quantities {
+            air_pressure: Hectopascals(number),
+            ..sample
+        },
+    )
 }
 
-fn more_ranges(rt: &HostRuntime) -> io::Result<()> {
-    let mut quantities = sample().quantities;
-    for number in [-32_768i16, -401, -400, 3000, 3001, 32_767] {
-        quantities.temperature = TenthsCelsius(number);
-        judge_marks(rt, quantities)?;
-    }
-    quantities = sample().quantities;
-    for number in [-32_768i16, -10_001, -10_000, 10_000, 10_001, 32_767] {
-        quantities.static_pressure = Pascals(number);
-        judge_marks(rt, quantities)?;
-    }
-    quantities = sample().quantities;
-    for number in [0u16, 499, 500, 1100, 1101, 65_535] {
-        quantities.air_pressure = Hectopascals(number);
-        judge_marks(rt, quantities)?;
-    }
-    Ok(())
-}
-
-fn send(rt: &HostRuntime, readings: &[RawReading]) -> io::Result<()> {
-    match StackHour::of(readings) {
+fn send(rt: &impl Print, readings: &[RawReading]) -> io::Result<()> {
+    match StackHour::try_from(readings) {
         Ok(_) => println!(rt; "hour kept"),
-        Err(fault) => {
-            let number = fault.number();
-            match fault {
-                HourFault::NotSixty => println!(rt; "hour fault {number}"),
-                HourFault::Minute(at) => {
-                    let minute = at.minute;
-                    println!(rt; "hour fault {number} minute {minute}")
-                }
-            }
+        Err(fault) => match fault {
+            HourFault::NotSixty => println!(rt; "hour fault {}", fault.number()),
+            HourFault::Minute(at) => println!(rt;
+                "hour fault {} minute {}",
+                fault.number(),
+                at.minute
+            ),
+        },
+    }
+}
+
+// What is wrong with a reading that is spoilt: fault 13, both faults, or fault 14.
+#[derive(Clone, Copy)]
+enum Spoilt {
+    Mark,
+    Both,
+    Number,
+}
+
+impl Spoilt {
+    fn spoil(self, reading: &mut RawReading) {
+        if matches!(self, Spoilt::Mark | Spoilt::Both) {
+            reading.mark = 'x';
+        }
+        if matches!(self, Spoilt::Number | Spoilt::Both) {
+            reading.quantities.co2 = HundredthsPercent(3001);
         }
     }
 }
 
-// Turns the reading of a minute into one with fault 13, with both faults, or with fault 14.
-fn spoil(readings: &mut [RawReading], minute: usize, kind: u8) {
-    if minute < readings.len() {
-        if kind <= 1 {
-            readings[minute].mark = 'x';
-        }
-        if kind >= 1 {
-            readings[minute].quantities.co2 = HundredthsPercent(3001);
-        }
+const WAYS: [Spoilt; 3] = [Spoilt::Mark, Spoilt::Both, Spoilt::Number];
+
+fn spoil(readings: &mut [RawReading], minute: usize, way: Spoilt) {
+    if let Some(reading) = readings.get_mut(minute) {
+        way.spoil(reading);
     }
 }
 
 // Two faults of every kind at two minutes, and rows of other lengths.
-pub fn hours(rt: &HostRuntime) -> io::Result<()> {
-    for (first, second) in [(0usize, 1usize), (0, 59), (30, 31), (58, 59), (59, 0)] {
-        for kind in 0..3u8 {
-            for other in 0..3u8 {
+pub fn hours(rt: &impl Print) -> io::Result<()> {
+    for (first, second) in [(0, 1), (0, 59), (30, 31), (58, 59), (59, 0)] {
+        for way in WAYS {
+            for other in WAYS {
                 let mut readings = [sample(); 60];
-                spoil(&mut readings, first, kind);
+                spoil(&mut readings, first, way);
                 spoil(&mut readings, second, other);
                 send(rt, &readings)?;
             }
@@ -154,6 +180,6 @@ pub fn hours(rt: &HostRuntime) -> io::Result<()> {
     send(rt, &long[0..0])?;
     send(rt, &long[0..59])?;
     send(rt, &long[0..60])?;
-    spoil(&mut long, 3, 0);
+    spoil(&mut long, 3, Spoilt::Mark);
     send(rt, &long)
 }

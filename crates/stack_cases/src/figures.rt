@@ -1,10 +1,12 @@
 // Figures of intervals and hours.
-use crate::draws::{Draws, sample};
-use calendar::{CentimetresPerSecond, Hectopascals, HundredthsPercent, Pascals, TenthsCelsius};
-use stack::{Means, Quantities, RawReading, Span, StackHour, StackSettings, Steps};
+use crate::draws::{Draws, NARROW, Ranges, WIDE, sample};
+use calendar::{
+    CentimetresPerSecond, Hectopascals, HundredthsPercent, Pascals, Span, TenthsCelsius,
+};
+use stack::{Means, Quantities, RawReading, SettingsFault, StackHour, StackSettings, Steps};
 use std::io;
 
-fn show_means(rt: &HostRuntime, means: &Means) -> io::Result<()> {
+fn show_means(rt: &impl Print, means: &Means) -> io::Result<()> {
     let q = means.quantities;
     println!(rt;
         "  means {} {} {} {} {} {}",
@@ -12,7 +14,7 @@ fn show_means(rt: &HostRuntime, means: &Means) -> io::Result<()> {
     )
 }
 
-fn show_steps(rt: &HostRuntime, steps: Steps) -> io::Result<()> {
+fn show_steps(rt: &impl Print, steps: Steps) -> io::Result<()> {
     println!(rt;
         "  steps {} {} {} {} {} {}",
         steps.flow.0,
@@ -25,17 +27,14 @@ fn show_steps(rt: &HostRuntime, steps: Steps) -> io::Result<()> {
 }
 
 fn show_interval(
-    rt: &HostRuntime,
+    rt: &impl Print,
     settings: &StackSettings,
     hour: &StackHour,
     quarter: usize,
 ) -> io::Result<()> {
     let (figure, minutes) = hour.interval_figure(settings, quarter);
     match figure {
-        Some(figure) => {
-            let grams = figure.0;
-            println!(rt; "interval {quarter} {minutes} {grams}")?;
-        }
+        Some(figure) => println!(rt; "interval {quarter} {minutes} {}", figure.0)?,
         None => println!(rt; "interval {quarter} {minutes} none")?,
     }
     if let Some(means) = hour.interval_means(quarter) {
@@ -45,8 +44,8 @@ fn show_interval(
     Ok(())
 }
 
-fn show(rt: &HostRuntime, settings: &StackSettings, readings: &[RawReading]) -> io::Result<()> {
-    let Ok(hour) = StackHour::of(readings) else {
+fn show(rt: &impl Print, settings: &StackSettings, readings: &[RawReading]) -> io::Result<()> {
+    let Ok(hour) = StackHour::try_from(readings) else {
         return println!(rt; "refused");
     };
     for quarter in 0..5 {
@@ -55,8 +54,7 @@ fn show(rt: &HostRuntime, settings: &StackSettings, readings: &[RawReading]) -> 
     let (record, minutes) = hour.record(settings);
     match record {
         Some(record) => {
-            let grams = record.grams.0;
-            println!(rt; "hour {minutes} {grams}")?;
+            println!(rt; "hour {minutes} {}", record.grams.0)?;
             show_means(rt, &record.means)?;
             show_steps(rt, Steps::of(Span::Hour, settings, &record.means))
         }
@@ -65,49 +63,47 @@ fn show(rt: &HostRuntime, settings: &StackSettings, readings: &[RawReading]) -> 
 }
 
 fn show_with(
-    rt: &HostRuntime,
-    (area, factor, basis): (u16, u16, char),
+    rt: &impl Print,
+    settings: Result<StackSettings, SettingsFault>,
     readings: &[RawReading],
 ) -> io::Result<()> {
-    match StackSettings::of(area, factor, basis) {
+    match settings {
         Ok(settings) => show(rt, &settings, readings),
         Err(_) => println!(rt; "no settings"),
     }
 }
 
 // The sample hour, wet and dry, then with moisture, then warmer.
-pub fn known(rt: &HostRuntime) -> io::Result<()> {
+pub fn known(rt: &impl Print) -> io::Result<()> {
     let mut reading = sample();
-    show_with(rt, (1000, 10_000, 'W'), &[reading; 60])?;
-    show_with(rt, (1000, 10_000, 'D'), &[reading; 60])?;
+    show_with(rt, StackSettings::of(1000, 10_000, 'W'), &[reading; 60])?;
+    show_with(rt, StackSettings::of(1000, 10_000, 'D'), &[reading; 60])?;
     reading.quantities.moisture = HundredthsPercent(1000);
-    show_with(rt, (1000, 10_000, 'W'), &[reading; 60])?;
-    show_with(rt, (1000, 10_000, 'D'), &[reading; 60])?;
+    show_with(rt, StackSettings::of(1000, 10_000, 'W'), &[reading; 60])?;
+    show_with(rt, StackSettings::of(1000, 10_000, 'D'), &[reading; 60])?;
     reading.quantities.moisture = HundredthsPercent(0);
     reading.quantities.temperature = TenthsCelsius(1000);
-    show_with(rt, (1000, 10_000, 'W'), &[reading; 60])
+    show_with(rt, StackSettings::of(1000, 10_000, 'W'), &[reading; 60])
 }
 
 fn keep_valid(readings: &mut [RawReading], count: usize) {
-    for (minute, reading) in readings.iter_mut().enumerate() {
-        if minute >= count {
-            reading.mark = 'L';
-        }
+    for reading in readings.iter_mut().skip(count) {
+        reading.mark = 'L';
     }
 }
 
 // Hours of which only the first minutes are valid.
-pub fn counts(rt: &HostRuntime) -> io::Result<()> {
+pub fn counts(rt: &impl Print) -> io::Result<()> {
     for count in [0usize, 1, 11, 12, 14, 15, 26, 27, 44, 45, 59, 60] {
         let mut readings = [sample(); 60];
         keep_valid(&mut readings, count);
-        show_with(rt, (1000, 10_000, 'W'), &readings)?;
+        show_with(rt, StackSettings::of(1000, 10_000, 'W'), &readings)?;
     }
     Ok(())
 }
 
 // The highest and the lowest figures, and the smallest stack.
-pub fn extremes(rt: &HostRuntime) -> io::Result<()> {
+pub fn extremes(rt: &impl Print) -> io::Result<()> {
     let high = Quantities {
         co2: HundredthsPercent(3000),
         moisture: HundredthsPercent(0),
@@ -130,31 +126,31 @@ pub fn extremes(rt: &HostRuntime) -> io::Result<()> {
                 mark: 'V',
                 quantities,
             };
-            show_with(rt, (20_000, 20_000, basis), &[reading; 60])?;
-            show_with(rt, (1, 1, basis), &[reading; 60])?;
+            show_with(rt, StackSettings::of(20_000, 20_000, basis), &[reading; 60])?;
+            show_with(rt, StackSettings::of(1, 1, basis), &[reading; 60])?;
         }
     }
     Ok(())
 }
 
-fn draw(draws: &mut Draws, readings: &mut [RawReading], valid_of_ten: u64, spread: bool) {
+fn draw(draws: &mut Draws, readings: &mut [RawReading], valid_of_ten: u64, ranges: &Ranges) {
     for reading in readings.iter_mut() {
-        *reading = draws.reading(valid_of_ten, spread);
+        *reading = draws.reading(valid_of_ten, ranges);
     }
 }
 
 // Hours whose settings, marks and numbers are drawn.
-pub fn drawn(rt: &HostRuntime) -> io::Result<()> {
+pub fn drawn(rt: &impl Print) -> io::Result<()> {
     let mut draws = Draws { state: 20_240_401 };
     for turn in 0..60u64 {
-        for spread in [true, false] {
+        for ranges in [&WIDE, &NARROW] {
             let area = (draws.next() % 20_000) as u16 + 1;
             let factor = (draws.next() % 20_000) as u16 + 1;
             let basis = if draws.next() % 2 == 0 { 'W' } else { 'D' };
             let mut readings = [sample(); 60];
-            draw(&mut draws, &mut readings, 6 + turn % 5, spread);
+            draw(&mut draws, &mut readings, 6 + turn % 5, ranges);
             println!(rt; "drawn {area} {factor} {basis}")?;
-            show_with(rt, (area, factor, basis), &readings)?;
+            show_with(rt, StackSettings::of(area, factor, basis), &readings)?;
         }
     }
     Ok(())

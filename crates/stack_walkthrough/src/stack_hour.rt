@@ -1,8 +1,11 @@
 // A stack hour, from sixty readings to grams, and what is refused.
-use calendar::{CentimetresPerSecond, Hectopascals, HundredthsPercent, Pascals, TenthsCelsius};
-use stack::{HourFault, Means, Quantities, RawReading, Span, StackHour, StackSettings, Steps};
+use calendar::{
+    CentimetresPerSecond, Hectopascals, HundredthsPercent, Pascals, Span, TenthsCelsius,
+};
+use stack::{HourFault, Means, Quantities, RawReading, StackHour, StackSettings, Steps};
 use std::io;
 
+// Sample, means and steps are here and in `stack_cases`, printed in other words: a crate for both would be longer than they are.
 // A valid minute: 10 % CO2, 10 m/s, 0 °C, 25 Pa above an air pressure of 1013 hPa.
 fn sample() -> RawReading {
     RawReading {
@@ -18,7 +21,7 @@ fn sample() -> RawReading {
     }
 }
 
-fn show_means(rt: &HostRuntime, means: &Means) -> io::Result<()> {
+fn show_means(rt: &impl Print, means: &Means) -> io::Result<()> {
     let q = means.quantities;
     println!(rt;
         "  Means: CO2 {}, moisture {}, speed {}, temperature {}, static pressure {}, air pressure {}.",
@@ -26,17 +29,16 @@ fn show_means(rt: &HostRuntime, means: &Means) -> io::Result<()> {
     )
 }
 
-fn show_steps(rt: &HostRuntime, steps: Steps) -> io::Result<()> {
+fn show_steps(rt: &impl Print, steps: Steps) -> io::Result<()> {
     println!(rt;
         "  Litres: w1 {}, w2 {}, w3 {}, w4 {}, w5 {}.",
         steps.flow.0, steps.at_zero.0, steps.at_standard.0, steps.on_basis.0, steps.co2.0
     )?;
-    let grams = steps.grams.0;
-    println!(rt; "  Figure: {grams} g of CO2.")
+    println!(rt; "  Figure: {} g of CO2.", steps.grams.0)
 }
 
 fn show_interval(
-    rt: &HostRuntime,
+    rt: &impl Print,
     settings: &StackSettings,
     hour: &StackHour,
     quarter: usize,
@@ -53,7 +55,7 @@ fn show_interval(
     Ok(())
 }
 
-fn show_hour(rt: &HostRuntime, settings: &StackSettings, hour: &StackHour) -> io::Result<()> {
+fn show_hour(rt: &impl Print, settings: &StackSettings, hour: &StackHour) -> io::Result<()> {
     let (record, minutes) = hour.record(settings);
     println!(rt; "The hour has {minutes} valid minutes.")?;
     match record {
@@ -65,25 +67,25 @@ fn show_hour(rt: &HostRuntime, settings: &StackSettings, hour: &StackHour) -> io
     }
 }
 
-fn show_refusal(rt: &HostRuntime, fault: HourFault) -> io::Result<()> {
+fn show_refusal(rt: &impl Print, fault: HourFault) -> io::Result<()> {
     let number = fault.number();
     match fault {
         HourFault::NotSixty => println!(rt; "Refused with fault {number}."),
-        HourFault::Minute(at) => {
-            let minute = at.minute;
-            println!(rt; "Refused with fault {number} at minute {minute}.")
-        }
+        HourFault::Minute(at) => println!(rt;
+            "Refused with fault {number} at minute {}.",
+            at.minute
+        ),
     }
 }
 
 // Sends an hour, and shows one of its intervals and the whole.
 fn send(
-    rt: &HostRuntime,
+    rt: &impl Print,
     settings: &StackSettings,
     readings: &[RawReading],
     quarter: usize,
 ) -> io::Result<()> {
-    match StackHour::of(readings) {
+    match StackHour::try_from(readings) {
         Ok(hour) => {
             show_interval(rt, settings, &hour, quarter)?;
             show_hour(rt, settings, &hour)
@@ -92,20 +94,14 @@ fn send(
     }
 }
 
-fn mark_calibration(readings: &mut [RawReading]) {
-    for (minute, reading) in readings.iter_mut().enumerate() {
-        if minute >= 16 && minute < 20 {
-            reading.mark = 'C';
-        }
-    }
-}
-
-fn show_hours(rt: &HostRuntime, settings: &StackSettings) -> io::Result<()> {
+fn show_hours(rt: &impl Print, settings: &StackSettings) -> io::Result<()> {
     let mut readings = [sample(); 60];
     println!(rt; "An hour of sixty valid readings is sent.")?;
     send(rt, settings, &readings, 0)?;
     println!(rt; "Minutes 16 to 19 are marked C, calibration.")?;
-    mark_calibration(&mut readings);
+    for reading in &mut readings[16..20] {
+        reading.mark = 'C';
+    }
     send(rt, settings, &readings, 1)?;
     println!(rt; "Minute 40 reads 60.01 m/s.")?;
     readings[40].quantities.speed = CentimetresPerSecond(6001);
@@ -118,7 +114,7 @@ fn show_hours(rt: &HostRuntime, settings: &StackSettings) -> io::Result<()> {
 }
 
 // Area 10 m², speed factor 1, CO2 measured in wet gas.
-pub fn show(rt: &HostRuntime) -> io::Result<()> {
+pub fn show(rt: &impl Print) -> io::Result<()> {
     println!(rt; "A stack is described: area 1000, speed factor 10000, basis W.")?;
     if let Ok(settings) = StackSettings::of(1000, 10_000, 'W') {
         show_hours(rt, &settings)?;
@@ -126,9 +122,6 @@ pub fn show(rt: &HostRuntime) -> io::Result<()> {
     println!(rt; "Another with basis X.")?;
     match StackSettings::of(1000, 10_000, 'X') {
         Ok(_) => Ok(()),
-        Err(fault) => {
-            let number = fault.number();
-            println!(rt; "Refused with fault {number}.")
-        }
+        Err(fault) => println!(rt; "Refused with fault {}.", fault.number()),
     }
 }

@@ -36,7 +36,7 @@ fn show_month(rt: &impl Print, term: Term, month: Month) -> io::Result<()> {
     }
 }
 
-// The day that is asked for need not be a date.
+// The day that is asked for need not be a date, so it is no `Date` that could print itself.
 fn ask_for_term(rt: &impl Print, year: u16, month: u8, day: u8, days: u8) -> io::Result<()> {
     println!(rt; "A term is asked for. First day: {year}-{month:02}-{day:02}. Days: {days}.")?;
     match Term::of(year, month, day, days) {
