@@ -1,8 +1,7 @@
 -- Values of types with invariants are known by their other fields, and lawful ones are judged lawful again.
 use Rattle.std.proofs.Common.{◌≡◌, ℕ, Bool, true, false, is_some, Some, None, Ok, refl, ap, ◌∙◌, arith}
-use mathlib.Core.Bool.{Bool-set}
-use mathlib.Core.HLevel.{×_prop, →_prop, Σ_prop_path}
-use native.Mathlib.Bridge.{le_prop}
+use mathlib.Core.HLevel.{Σ_prop_path}
+use Rattle.std.proofs.Props.{props}
 use Rattle.std.proofs.lemmas.Bool.Decides.{nat_tests}
 use Rattle.calendar.specs.Days.{Within}
 use Rattle.stack.specs.declared.marks.Mark.{Mark}
@@ -19,7 +18,7 @@ use Rattle.stack.specs.Settings as settings
 use Rattle.stack.proofs.Letters.{mark_laws}
 
 pub same_pair : {A B : Type 0} (x y : A) (a b : B) → x ≡ y → a ≡ b → ◌≡◌ {A = A × B} (x, a) (y, b)
-same_pair x y a b e f = rw (e, f)
+same_pair x y a b e f = cc
 
 -- a mark with numbers that are in range behind V
 abbrev Sound : Mark × Quantities → Type 0
@@ -34,7 +33,7 @@ same_reading r t e =
     let a = mark_laws.found r.mark in
     let b = mark_laws.found t.mark in
     let m : r.mark ≡ t.mark = cc in
-    ap reading (Σ_prop_path {B = Sound} (λ p. →_prop (Bool-set (in_range p.1) true)) {u = ((r.mark, r.quantities), r.in_range)} {v = ((t.mark, t.quantities), t.in_range)} (same_pair r.mark t.mark r.quantities t.quantities m (ap (λ w. w.quantities) e)))
+    ap reading (Σ_prop_path {B = Sound} (λ p. hlevel props) {u = ((r.mark, r.quantities), r.in_range)} {v = ((t.mark, t.quantities), t.in_range)} (same_pair r.mark t.mark r.quantities t.quantities m (ap (λ w. w.quantities) e)))
 
 reading_again : (r : Reading) → readings.first_fault (readings.raw_of r) ≡ None
 reading_again r = ap (readings.fault_behind (readings.raw_of r)) (mark_laws.found r.mark) ∙ go (marks.valid r.mark) refl
@@ -50,7 +49,7 @@ abbrev means : (q : Quantities) × (in_range q ≡ true) → Means
 means u = record { quantities = u.0; in_range = u.1 }
 
 pub same_means : (m n : Means) → m.quantities ≡ n.quantities → m ≡ n
-same_means m n e = ap means (Σ_prop_path (λ q. Bool-set (in_range q) true) {u = (m.quantities, m.in_range)} {v = (n.quantities, n.in_range)} e)
+same_means m n e = ap means (Σ_prop_path (λ q. hlevel props) {u = (m.quantities, m.in_range)} {v = (n.quantities, n.in_range)} e)
 
 -- an area and a factor in range
 abbrev Sized : ℕ × ℕ → Type 0
@@ -69,7 +68,7 @@ same_settings s t e =
     let a = basis_found s.basis in
     let b = basis_found t.basis in
     let m : s.basis ≡ t.basis = cc in
-    let p = Σ_prop_path {B = Sized} (λ _. ×_prop (×_prop le_prop le_prop) (×_prop le_prop le_prop)) {u = ((s.area, s.speed_factor), (s.area_in_range, s.factor_in_range))} {v = ((t.area, t.speed_factor), (t.area_in_range, t.factor_in_range))} (same_pair s.area t.area s.speed_factor t.speed_factor (ap (λ d. d.area) e) (ap (λ d. d.speed_factor) e)) in
+    let p = Σ_prop_path {B = Sized} (λ p. hlevel props) {u = ((s.area, s.speed_factor), (s.area_in_range, s.factor_in_range))} {v = ((t.area, t.speed_factor), (t.area_in_range, t.factor_in_range))} (same_pair s.area t.area s.speed_factor t.speed_factor (ap (λ d. d.area) e) (ap (λ d. d.speed_factor) e)) in
     ap (settings_with s.basis) p ∙ ap (λ b. settings_with b ((t.area, t.speed_factor), (t.area_in_range, t.factor_in_range))) m
 
 settings_again : (s : StackSettings) → settings.first_fault (settings.draft_of s) ≡ None

@@ -4,6 +4,7 @@ pub mod Readings
 pub mod Settings
 pub mod Hours
 pub mod Means
+pub mod Totals
 pub mod Sums
 pub mod Steps
 pub mod Working

@@ -1,5 +1,5 @@
 -- Marks and their letters.
-use Rattle.std.specs.Prelude.{◌≡◌, ℕ, Bool, cond, Ok, Err, Result, ◌==◌}
+use Rattle.std.specs.Prelude.{◌≡◌, ℕ, Bool, if◌then◌else◌, Ok, Err, Result, ◌==◌}
 use Rattle.stack.specs.declared.marks.Mark.{Mark}
 use Rattle.stack.specs.declared.marks.Mark.TheVariants.{Valid, Breakdown, Repair, NoQualityControl, CalibrationOverdue, OutOfSpecification, PlannedMaintenance, Calibration, OutOfControl}
 use Rattle.stack.specs.declared.marks.MarkFault.{MarkFault}
@@ -24,16 +24,16 @@ valid m = letter_of m == letter_of Valid
 -- the mark with a letter, where there is one
 abbrev pub mark_of : ℕ → Result Mark MarkFault
 mark_of c =
-    cond (c == letter_of Valid) (Ok Valid)
-    (cond (c == letter_of Breakdown) (Ok Breakdown)
-    (cond (c == letter_of Repair) (Ok Repair)
-    (cond (c == letter_of NoQualityControl) (Ok NoQualityControl)
-    (cond (c == letter_of CalibrationOverdue) (Ok CalibrationOverdue)
-    (cond (c == letter_of OutOfSpecification) (Ok OutOfSpecification)
-    (cond (c == letter_of PlannedMaintenance) (Ok PlannedMaintenance)
-    (cond (c == letter_of Calibration) (Ok Calibration)
-    (cond (c == letter_of OutOfControl) (Ok OutOfControl)
-    (Err Unknown)))))))))
+    if c == letter_of Valid then Ok Valid
+    else (if c == letter_of Breakdown then Ok Breakdown
+    else (if c == letter_of Repair then Ok Repair
+    else (if c == letter_of NoQualityControl then Ok NoQualityControl
+    else (if c == letter_of CalibrationOverdue then Ok CalibrationOverdue
+    else (if c == letter_of OutOfSpecification then Ok OutOfSpecification
+    else (if c == letter_of PlannedMaintenance then Ok PlannedMaintenance
+    else (if c == letter_of Calibration then Ok Calibration
+    else (if c == letter_of OutOfControl then Ok OutOfControl
+    else Err Unknown))))))))
 
 abbrev pub fault_number : MarkFault → ℕ
 fault_number Unknown = 13

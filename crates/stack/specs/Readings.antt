@@ -1,5 +1,5 @@
 -- How a raw reading is judged, and what an accepted one keeps.
-use Rattle.std.specs.Prelude.{◌≡◌, ℕ, cond, not, ◌&&◌, Some, None, Ok, Err, Option, Result}
+use Rattle.std.specs.Prelude.{◌≡◌, ℕ, if◌then◌else◌, not, ◌&&◌, Some, None, Ok, Err, Option, Result}
 use Rattle.stack.specs.declared.marks.Mark.{Mark}
 use Rattle.stack.specs.declared.marks.MarkFault.{MarkFault}
 use Rattle.stack.specs.declared.readings.RawReading.{RawReading}
@@ -16,7 +16,7 @@ fault_number OutOfRange = 14
 -- the fault of a reading, once its mark is judged: the numbers count only behind V
 abbrev pub fault_behind : RawReading → Result Mark MarkFault → Option ReadingFault
 fault_behind r (Err f) = Some (UnknownMark f)
-fault_behind r (Ok m) = cond (marks.valid m && not (in_range r.quantities)) (Some OutOfRange) None
+fault_behind r (Ok m) = if marks.valid m && not (in_range r.quantities) then Some OutOfRange else None
 
 abbrev pub first_fault : RawReading → Option ReadingFault
 first_fault r = fault_behind r (marks.mark_of r.mark)

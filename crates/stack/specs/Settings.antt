@@ -1,5 +1,5 @@
 -- Settings of a stack: what is refused, and what is kept.
-use Rattle.std.specs.Prelude.{◌≡◌, ℕ, Bool, cond, ◌&&◌, is_some, Some, None, Ok, Err, Option, Result, ◌==◌}
+use Rattle.std.specs.Prelude.{◌≡◌, ℕ, Bool, if◌then◌else◌, ◌&&◌, is_some, Some, None, Ok, Err, Option, Result, ◌==◌}
 use Rattle.calendar.specs.Days.{within}
 use Rattle.stack.specs.declared.settings.Basis.{Basis}
 use Rattle.stack.specs.declared.settings.Basis.TheVariants.{Wet, Dry}
@@ -13,7 +13,7 @@ letter_of Wet = 87
 letter_of Dry = 68
 
 abbrev pub basis_of : ℕ → Option Basis
-basis_of c = cond (c == letter_of Wet) (Some Wet) (cond (c == letter_of Dry) (Some Dry) None)
+basis_of c = if c == letter_of Wet then Some Wet else (if c == letter_of Dry then Some Dry else None)
 
 -- Settings as they are asked for: square decimetres, ten-thousandths, a letter's code.
 pub record SettingsDraft : Type 0 where
@@ -28,7 +28,7 @@ abbrev pub lawful : SettingsDraft → Bool
 lawful d = within 1 20000 d.area && (within 1 20000 d.speed_factor && is_some (basis_of d.basis))
 
 abbrev pub first_fault : SettingsDraft → Option SettingsFault
-first_fault d = cond (lawful d) None (Some AreaFactorOrBasis)
+first_fault d = if lawful d then None else Some AreaFactorOrBasis
 
 -- settings are made exactly where there is no fault, with the values asked for
 abbrev pub SettingsOf : SettingsDraft → Result StackSettings SettingsFault → Type 0

@@ -2,25 +2,23 @@
 // and the working from the valid minutes of an interval or an hour to grams of CO2.
 #![tactic(auto)]
 
+mod held_laws;
 pub mod hours;
 pub mod marks;
 pub mod means;
-mod quantities;
-mod reading_checks;
+pub mod quantities;
 pub mod readings;
 pub mod settings;
-mod settings_checks;
-mod steps;
+pub mod steps;
 mod sums;
-mod working;
+pub mod working;
 
-pub use hours::{HourFault, MinuteFault, StackHour, hour_laws};
-pub use marks::{Mark, MarkFault, mark_laws};
+pub use held_laws::{hour_laws, mark_laws, reading_laws, settings_laws, working_laws};
+pub use hours::{HourFault, MinuteFault, StackHour};
+pub use marks::{Mark, MarkFault};
 pub use means::Means;
 pub use quantities::Quantities;
-pub use reading_checks::reading_laws;
 pub use readings::{RawReading, Reading, ReadingFault};
 pub use settings::{Basis, SettingsFault, StackSettings};
-pub use settings_checks::settings_laws;
-pub use steps::{Span, Steps};
-pub use working::{HourRecord, working_laws};
+pub use steps::Steps;
+pub use working::HourRecord;

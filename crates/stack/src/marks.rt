@@ -1,6 +1,6 @@
 // The mark of a reading or a weighing: valid, or the invalid period that it falls into.
 ghost use Rattle.std.specs.Prelude.{◌≡◌};
-ghost use Rattle.stack.specs.Marks.{valid, letter_of, mark_of, fault_number, MarkLaws};
+ghost use Rattle.stack.specs.Marks.{valid, letter_of, mark_of, fault_number};
 
 // The eight invalid periods are those of clause 7.1.2, in its order.
 #[derive(Clone, Copy, PartialEq, Eq, Debug)]
@@ -33,11 +33,13 @@ impl MarkFault {
     }
 }
 
-impl Mark {
-    // The mark that a letter stands for. Small letters are none.
-    pub fn of(letter: char) -> Result<Mark, MarkFault>
-        ensures { result ≡ mark_of letter }
-    {
+// The mark that a letter stands for. Small letters are none.
+impl TryFrom<char> for Mark {
+    type Error = MarkFault;
+
+    ghost try_from_gives = { λ c r. r ≡ mark_of c };
+
+    fn try_from(letter: char) -> Result<Mark, MarkFault> {
         match letter {
             'V' => Ok(Mark::Valid),
             'B' => Ok(Mark::Breakdown),
@@ -51,7 +53,10 @@ impl Mark {
             _ => Err(MarkFault::Unknown),
         }
     }
+}
 
+impl Mark {
+    // Named, and no `From<Mark> for char`: a bare `char` does not say that it is the letter.
     pub fn letter(self) -> char
         ensures { result ≡ letter_of self }
     {
@@ -74,8 +79,3 @@ impl Mark {
         matches!(self, Mark::Valid)
     }
 }
-
-// Holds the laws of marks: each has a letter of its own, and no other letter stands for one.
-pub fn mark_laws()
-    ensures { MarkLaws }
-{}

@@ -1,6 +1,6 @@
 // The six quantities that the stack instruments give, each in its unit.
 ghost use Rattle.std.specs.Prelude.{◌≡◌};
-ghost use Rattle.stack.specs.Quantities.{in_range, within_ℤ};
+ghost use Rattle.stack.specs.Quantities.{in_range};
 
 use calendar::{CentimetresPerSecond, Hectopascals, HundredthsPercent, Pascals, TenthsCelsius};
 
@@ -15,12 +15,6 @@ pub struct Quantities {
     pub air_pressure: Hectopascals,
 }
 
-fn within(low: i16, high: i16, number: i16) -> bool
-    ensures { result ≡ within_ℤ low high number }
-{
-    low <= number && number <= high
-}
-
 impl Quantities {
     // Whether each number is in the range of a valid minute.
     pub fn in_range(&self) -> bool
@@ -29,8 +23,8 @@ impl Quantities {
         self.co2.0 <= 3000
             && self.moisture.0 <= 4000
             && self.speed.0 <= 6000
-            && within(-400, 3000, self.temperature.0)
-            && within(-10_000, 10_000, self.static_pressure.0)
-            && (500 <= self.air_pressure.0 && self.air_pressure.0 <= 1100)
+            && (-400..=3000).contains(&self.temperature.0)
+            && (-10_000..=10_000).contains(&self.static_pressure.0)
+            && (500..=1100).contains(&self.air_pressure.0)
     }
 }

@@ -29,3 +29,47 @@ pub enum ReadingFault {
     // Fault 14: a number of a valid reading is out of its range.
     OutOfRange,
 }
+
+impl ReadingFault {
+    ghost use Rattle.stack.specs.Readings.{fault_number};
+
+    pub fn number(self) -> u8
+        ensures { result ≡ fault_number self }
+    {
+        match self {
+            ReadingFault::Mark(fault) => fault.number(),
+            ReadingFault::OutOfRange => 14,
+        }
+    }
+}
+
+// By hand, as that of `HourFault`: a derived `From` would not promise what it gives.
+impl From<MarkFault> for ReadingFault {
+    ghost use Rattle.std.specs.Prelude.{◌≡◌};
+    ghost use Rattle.stack.specs.declared.readings.ReadingFault.TheVariants.{Mark as UnknownMark};
+
+    ghost from_gives = { λ f r. r ≡ UnknownMark f };
+
+    fn from(unknown: MarkFault) -> ReadingFault {
+        ReadingFault::Mark(unknown)
+    }
+}
+
+// The reading with the mark and the numbers that came, or the first fault: the mark is judged first, then the numbers
+// of a valid one.
+impl TryFrom<RawReading> for Reading {
+    ghost use Rattle.stack.specs.Readings.{ReadingOf};
+
+    type Error = ReadingFault;
+
+    ghost try_from_gives = { ReadingOf };
+
+    fn try_from(raw: RawReading) -> Result<Reading, ReadingFault> {
+        let mark = Mark::try_from(raw.mark)?;
+        let quantities = raw.quantities;
+        if mark.is_valid() && !quantities.in_range() {
+            return Err(ReadingFault::OutOfRange);
+        }
+        Ok(Reading { mark, quantities })
+    }
+}
