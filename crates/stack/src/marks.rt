@@ -23,6 +23,7 @@ pub enum MarkFault {
     Unknown,
 }
 
+// A `match` of its own, as each fault type has.
 impl MarkFault {
     pub fn number(self) -> u8
         ensures { result ≡ fault_number self }

@@ -27,6 +27,7 @@ pub enum SettingsFault {
     AreaFactorOrBasis,
 }
 
+// A `match` of its own, as each fault type has.
 impl SettingsFault {
     ghost use Rattle.stack.specs.Settings.{fault_number};
 

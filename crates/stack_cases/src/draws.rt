@@ -120,7 +120,7 @@ impl Draws {
     }
 }
 
-// A valid minute: 10 % CO2, 10 m/s, 0 °C, 25 Pa above an air pressure of 1013 hPa.
+// As in `stack_walkthrough`. A valid minute: 10 % CO2, 10 m/s, 0 °C, 25 Pa above an air pressure of 1013 hPa.
 pub fn sample() -> RawReading {
     RawReading {
         mark: 'V',

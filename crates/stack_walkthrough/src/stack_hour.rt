@@ -37,6 +37,7 @@ fn show_steps(rt: &impl Print, steps: Steps) -> io::Result<()> {
     println!(rt; "  Figure: {} g of CO2.", steps.grams.0)
 }
 
+// Here and below the runtime prints and the settings are data: a struct of both would say less than two parameters.
 fn show_interval(
     rt: &impl Print,
     settings: &StackSettings,
