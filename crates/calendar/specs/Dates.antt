@@ -1,6 +1,7 @@
 -- A date as a day of the calendar, its number, and what the calls that make dates answer.
 use Rattle.std.specs.Prelude.{◌≡◌, ℕ, ◌+◌, ◌/◌, ◌%◌, ◌<◌, ◌≤◌, true, false, List, ◌∷◌, ◌++◌, Some, None, decimal, Option}
 use Rattle.calendar.specs.declared.dates.Date.{Date}
+use Rattle.calendar.specs.declared.months.Month.{Month}
 use Rattle.calendar.specs.Days.{Day, Lawful, lawful, calendar_days, day_after, day_at, day_number}
 
 abbrev pub day_of : Date → Day
@@ -13,9 +14,17 @@ number_of d = day_number (day_of d)
 abbrev pub two_digits : ℕ → List ℕ
 two_digits n = decimal (n / 10) ++ decimal (n % 10)
 
--- a date as text: the year, and month and day in two digits each, with hyphens (45) between
+-- the month of a date
+abbrev pub month_of : Date → Month
+month_of d = record { year = d.year; month = d.month }
+
+-- a month as text: the year, a hyphen (45), and the month in two digits
+abbrev pub month_text : Month → List ℕ
+month_text m = decimal m.year ++ (45 ∷ two_digits m.month)
+
+-- a date as text: that of its month, a hyphen, and the day in two digits
 abbrev pub date_text : Date → List ℕ
-date_text d = decimal d.year ++ (45 ∷ (two_digits d.month ++ (45 ∷ two_digits d.day)))
+date_text d = month_text (month_of d) ++ (45 ∷ two_digits d.day)
 
 -- the date of a day, where the day is lawful
 abbrev pub DateOfDay : Day → Option Date → Type 0

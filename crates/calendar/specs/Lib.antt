@@ -1,6 +1,7 @@
 pub mod Rounding
 pub mod Days
 pub mod Dates
+pub mod Faults
 pub mod Spans
 pub mod Terms
 pub mod Months

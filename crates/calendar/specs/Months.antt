@@ -1,10 +1,10 @@
 -- The calendar months that a term touches, and those that lie in it whole.
-use Rattle.std.specs.Prelude.{◌≡◌, ℕ, ◌+◌, ◌-◌, ◌*◌, ◌/◌, ◌%◌, ◌<◌, Bool, true, if◌then◌else◌, ◌&&◌, List, ◌∷◌, ◌++◌, decimal, Some, None, Option, nat_le, nat_lt}
+use Rattle.std.specs.Prelude.{◌≡◌, ℕ, ◌+◌, ◌-◌, ◌*◌, ◌/◌, ◌%◌, ◌<◌, Bool, true, if◌then◌else◌, ◌&&◌, Some, None, Option, nat_le, nat_lt}
 use Rattle.calendar.specs.declared.terms.Term.{Term}
 use Rattle.calendar.specs.declared.months.Month.{Month}
 use Rattle.calendar.specs.declared.months.MonthSpan.{MonthSpan}
 use Rattle.calendar.specs.Days.{Day, Within, month_length, lawful, day_at, day_number}
-use Rattle.calendar.specs.Dates.{day_of, two_digits}
+use Rattle.calendar.specs.Dates.{day_of}
 use Rattle.calendar.specs.Terms.{first_number, last_number}
 
 -- months counted from January 2000 as 0: the count of a day's month, and the month of a count
@@ -13,10 +13,6 @@ month_index d = 12 * (d.year - 2000) + (d.month - 1)
 
 abbrev pub month_counted : ℕ → Month
 month_counted n = record { year = 2000 + n / 12; month = n % 12 + 1 }
-
--- a month as text: the year, a hyphen (45), and the month in two digits
-abbrev pub month_text : Month → List ℕ
-month_text m = decimal m.year ++ (45 ∷ two_digits m.month)
 
 -- how many months the term touches, from that of its first day to that of its last
 unfoldable pub touched_months : Term → ℕ

@@ -51,7 +51,7 @@ fn month_of_day(year: u16, day_of_year: u16) -> u8
 impl Date {
     ghost use Rattle.std.specs.Prelude.{Some};
     ghost use Rattle.calendar.specs.declared.dates.Date.{Date as Dated};
-    ghost use Rattle.calendar.specs.Dates.{day_of, number_of, DateOfDay, DateOfNumber, DateAfter};
+    ghost use Rattle.calendar.specs.Dates.{day_of, number_of, DateOfDay, DateOfNumber, DateAfter, month_of};
     ghost use Rattle.calendar.specs.Months.{month_index};
 
     // The date of a year, month and day, or none where there is no such day from 2000 to 2099.
@@ -67,13 +67,13 @@ impl Date {
         Some(Date { year, month, day })
     }
 
-    // Days since 2000-01-01. (No `From`, here and below: a bare number does not say what it counts.)
+    // Days since 2000-01-01. (`u16::from(date)` would not say what is counted, nor `Date::try_from(n)` that n is a day number.)
     #[tactic(auto, using(crate::proofs::SameDates::number_below), unfolding(crate::specs::Days::day_number))]
     pub fn number(self) -> u16
         ensures value { result ≡ number_of self }
         ensures bound { result < calendar_days }
     {
-        days_before_year(self.year) + self.month().days_before() + (self.day - 1) as u16
+        days_before_year(self.year) + self.month().days_before() + u16::from(self.day - 1)
     }
 
     // The date with a number, or none past 2099-12-31.
@@ -85,7 +85,7 @@ impl Date {
         if number >= CALENDAR_DAYS {
             return None;
         }
-        let year = 2000 + (4 * number as u32 / 1461) as u16;
+        let year = 2000 + (4 * u32::from(number) / 1461) as u16;
         let day_of_year = number - days_before_year(year);
         let month = month_of_day(year, day_of_year);
         let begin = Month { year, month }.days_before();
@@ -109,7 +109,7 @@ impl Date {
 
     // The month in which it lies.
     pub(crate) fn month(self) -> Month
-        ensures { result ≡ record { year = self.year; month = self.month } }
+        ensures { result ≡ month_of self }
     {
         Month {
             year: self.year,
@@ -121,7 +121,7 @@ impl Date {
     pub(crate) fn month_index(self) -> usize
         ensures { result ≡ month_index (day_of self) }
     {
-        12 * (self.year - 2000) as usize + (self.month - 1) as usize
+        12 * usize::from(self.year - 2000) + usize::from(self.month - 1)
     }
 }
 
@@ -134,6 +134,6 @@ impl Display for Date {
 
     #[tactic(auto, using(crate::proofs::Texts::styled_is_two_digits, crate::proofs::Calendars::few_days))]
     fn fmt<W: Write>(&self, f: &mut Formatter<W>) -> Result<(), fmt::Error> {
-        write!(f, "{}-{:02}-{:02}", self.year, self.month, self.day)
+        write!(f, "{}-{:02}", self.month(), self.day)
     }
 }

@@ -1,7 +1,7 @@
 // Months of a year, and where a whole one lies in a term.
 ghost use Rattle.std.specs.Prelude.{◌≡◌, Some};
 ghost use Rattle.calendar.specs.Days.{Within, leap, month_length, days_before_month};
-ghost use Rattle.calendar.specs.Months.{month_text};
+ghost use Rattle.calendar.specs.Dates.{month_text};
 
 use std::fmt;
 use std::fmt::{Display, Formatter, Write};
@@ -30,7 +30,7 @@ fn is_leap(year: u16) -> bool
 }
 
 impl Month {
-    // Days of the month, 1 to 12.
+    // How many days it has, where it is one of the months 1 to 12.
     #[tactic(auto, unfolding(crate::specs::Days::month_length))]
     pub(crate) fn length(self) -> u8
         ensures { result ≡ month_length self.year self.month }
@@ -48,7 +48,7 @@ impl Month {
         requires { Within 1 12 self.month }
         ensures { result ≡ days_before_month self.year self.month }
     {
-        let days = DAYS_BEFORE_MONTH[self.month as usize - 1];
+        let days = DAYS_BEFORE_MONTH[usize::from(self.month) - 1];
         if self.month > 2 && is_leap(self.year) {
             days + 1
         } else {

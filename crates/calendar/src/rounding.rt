@@ -17,8 +17,8 @@ pub trait Dividend: Sized {
     fn nearest(self, divisor: NonZeroU64) -> Self
         ensures { result ≡ nearest self (non_zero_u64_get divisor) };
 
-    // It is the same number that integers are rounded to.
-    ghost rounds: { (a : Self) (b : ℕ) → 0 < b → integer (nearest a b) ≡ nearest_ℤ (integer a) b };
+    // Both kinds of dividends are rounded as integers are.
+    ghost rounds: { (a : Self) (b : ℕ) → integer (nearest a b) ≡ nearest_ℤ (integer a) b };
 }
 
 // Every 64-bit dividend, doubled, fits 128 bits.
@@ -36,7 +36,7 @@ impl Dividend for u64 {
 
     ghost nearest = { nearest_ℕ };
 
-    ghost rounds = { λ a b _. nearest_ℕ_is_nearest_ℤ a b };
+    ghost rounds = { nearest_ℕ_is_nearest_ℤ };
 
     #[tactic(auto, using(crate::proofs::Rounds::unsigned_quotients))]
     fn nearest(self, divisor: NonZeroU64) -> u64 {
@@ -49,7 +49,7 @@ impl Dividend for i64 {
 
     ghost nearest = { nearest_ℤ };
 
-    ghost rounds = { λ _ _ _. refl };
+    ghost rounds = { λ _ _. refl };
 
     #[tactic(auto, using(crate::proofs::Rounds::signed_quotients))]
     fn nearest(self, divisor: NonZeroU64) -> i64 {

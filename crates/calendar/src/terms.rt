@@ -6,6 +6,9 @@ ghost use Rattle.calendar.specs.Dates.{day_of, number_of};
 use crate::dates::{CALENDAR_DAYS, Date};
 use crate::months::{Month, MonthSpan};
 use crate::spans::Span;
+use std::error::Error;
+use std::fmt;
+use std::fmt::{Display, Formatter, Write};
 
 // A first day and 1 to 92 days, the last of them not after 2099-12-31.
 #[derive(Clone, Copy, PartialEq, Eq, Debug)]
@@ -36,18 +39,33 @@ impl TermFault {
     }
 }
 
+// As `fault 1`. Each fault type has an impl of its own, with the same body.
+impl Display for TermFault {
+    ghost use Rattle.std.specs.Prelude.{Some};
+    ghost use Rattle.calendar.specs.Faults.{fault_text};
+    ghost use Rattle.calendar.specs.Terms.{fault_number};
+
+    ghost output = { λ f. Some (fault_text (fault_number f)) };
+
+    fn fmt<W: Write>(&self, f: &mut Formatter<W>) -> Result<(), fmt::Error> {
+        write!(f, "fault {}", self.number())
+    }
+}
+
+impl Error for TermFault {}
+
 impl Term {
     ghost use Rattle.calendar.specs.Terms.{TermOf, places_of, term_day, last_number, DateOfTermDay};
     ghost use Rattle.calendar.specs.Months.{touched_months, touched_month, month_span};
 
-    // The term that begins on a day and has that many days, or fault 1. Three numbers name the day, as in `Date::of`: a struct
-    // of them, for a day that may be none, would be made and taken apart at once.
+    // The term that begins on a day and has that many days, or fault 1. (Three numbers name the day, as in `Date::of`: with a
+    // struct of them, `Term::of(2024, 4, 1, 92)` were `Term::of(Day { year: 2024, month: 4, day: 1 }, 92)`.)
     #[tactic(auto, unfolding(crate::specs::Terms::lawful_term))]
     pub fn of(year: u16, month: u8, day: u8, days: u8) -> Result<Term, TermFault>
         ensures { TermOf (record { first = record { year = year; month = month; day = day }; days = days }) result }
     {
         let first = Date::of(year, month, day).ok_or(TermFault::DateOrDays)?;
-        if !(1..=92).contains(&days) || first.number() + days as u16 > CALENDAR_DAYS {
+        if !(1..=92).contains(&days) || first.number() + u16::from(days) > CALENDAR_DAYS {
             return Err(TermFault::DateOrDays);
         }
         Ok(Term { first, days })
@@ -57,7 +75,7 @@ impl Term {
     pub fn places(self, span: Span) -> usize
         ensures { result ≡ places_of span self }
     {
-        span.places_a_day() * self.days as usize
+        span.places_a_day() * usize::from(self.days)
     }
 
     // The day of the term in which an interval or an hour lies, or none past the term.
@@ -74,7 +92,7 @@ impl Term {
     pub fn date(self, day: usize) -> Option<Date>
         ensures { DateOfTermDay self day result }
     {
-        if day >= self.days as usize {
+        if day >= usize::from(self.days) {
             return None;
         }
         Date::from_number(self.first.number() + day as u16)
@@ -85,7 +103,7 @@ impl Term {
         ensures day { day_of result ≡ day_at (last_number self) }
         ensures number { number_of result ≡ last_number self }
     {
-        Date::from_number(self.first.number() + (self.days - 1) as u16).unwrap()
+        Date::from_number(self.first.number() + u16::from(self.days - 1)).unwrap()
     }
 
     // How many calendar months the term touches: one to five.
@@ -116,10 +134,10 @@ impl Term {
     pub fn month_span(self, month: Month) -> Option<MonthSpan>
         ensures { result ≡ month_span self month.year month.month }
     {
-        let begin = Date::of(month.year, month.month, 1)?.number() as usize;
-        let days = month.length() as usize;
-        let term_begin = self.first.number() as usize;
-        if begin < term_begin || begin + days > term_begin + self.days as usize {
+        let begin = usize::from(Date::of(month.year, month.month, 1)?.number());
+        let days = usize::from(month.length());
+        let term_begin = usize::from(self.first.number());
+        if begin < term_begin || begin + days > term_begin + usize::from(self.days) {
             return None;
         }
         Some(MonthSpan {

@@ -57,7 +57,7 @@ impl Kilograms {
     pub fn to_grams(self) -> Grams
         ensures { result.0 ≡ 1000 * self.0 }
     {
-        Grams(1000 * self.0 as u64)
+        Grams(1000 * u64::from(self.0))
     }
 }
 
@@ -74,6 +74,6 @@ impl Hectopascals {
     pub fn to_pascals(self) -> Pascals<i32>
         ensures { result.0 ≡ pos (100 * self.0) }
     {
-        Pascals(100 * self.0 as i32)
+        Pascals(100 * i32::from(self.0))
     }
 }

@@ -71,7 +71,7 @@ fn one_term(rt: &impl Print, year: u16, month: u8, day: u8, days: u8) -> io::Res
             months(rt, term)?;
             places(rt, term)
         }
-        Err(fault) => println!(rt; "{year} {month} {day} {days} fault {}", fault.number()),
+        Err(fault) => println!(rt; "{year} {month} {day} {days} {fault}"),
     }
 }
 
@@ -117,26 +117,26 @@ fn one_day(rt: &impl Print, term: Term, day: Option<usize>) -> io::Result<()> {
 
 // Rounded quotients: all small ones, and the ends of the integers.
 fn quotients(rt: &impl Print) -> io::Result<()> {
-    for b in 1..13u64 {
-        for a in 0..40u64 {
+    for b in (1..13).filter_map(NonZeroU64::new) {
+        for a in 0..40 {
             one_quotient(rt, a, b)?;
         }
     }
     for a in [u64::MAX, u64::MAX / 2, u64::MAX / 2 + 1] {
-        for b in [1u64, 2, 1000, u64::MAX] {
+        for b in [1, 2, 1000, u64::MAX]
+            .into_iter()
+            .filter_map(NonZeroU64::new)
+        {
             one_quotient(rt, a, b)?;
         }
     }
     Ok(())
 }
 
-fn one_quotient(rt: &impl Print, a: u64, b: u64) -> io::Result<()> {
-    let Some(divisor) = NonZeroU64::new(b) else {
-        return Ok(());
-    };
-    let near = nearest(a, divisor);
-    let up = round_up(a, divisor);
-    let below = nearest(-((a / 2) as i64), divisor);
+fn one_quotient(rt: &impl Print, a: u64, b: NonZeroU64) -> io::Result<()> {
+    let near = nearest(a, b);
+    let up = round_up(a, b);
+    let below = nearest(-((a / 2) as i64), b);
     println!(rt; "{a} {b} {near} {up} {below}")
 }
 

@@ -2,6 +2,7 @@
 // and the working from the valid minutes of an interval or an hour to grams of CO2.
 #![tactic(auto)]
 
+// The modules that declare types are public too.
 mod held_laws;
 pub mod hours;
 pub mod marks;
@@ -13,6 +14,7 @@ pub mod steps;
 mod sums;
 pub mod working;
 
+pub use calendar::Span;
 pub use held_laws::{hour_laws, mark_laws, reading_laws, settings_laws, working_laws};
 pub use hours::{HourFault, MinuteFault, StackHour};
 pub use marks::{Mark, MarkFault};

@@ -1,6 +1,11 @@
 // The mark of a reading or a weighing: valid, or the invalid period that it falls into.
-ghost use Rattle.std.specs.Prelude.{◌≡◌};
+ghost use Rattle.std.specs.Prelude.{◌≡◌, Some};
+ghost use Rattle.calendar.specs.Faults.{fault_text};
 ghost use Rattle.stack.specs.Marks.{valid, letter_of, mark_of, fault_number};
+
+use std::error::Error;
+use std::fmt;
+use std::fmt::{Display, Formatter, Write};
 
 // The eight invalid periods are those of clause 7.1.2, in its order.
 #[derive(Clone, Copy, PartialEq, Eq, Debug)]
@@ -55,6 +60,17 @@ impl TryFrom<char> for Mark {
         }
     }
 }
+
+// As `fault 13`.
+impl Display for MarkFault {
+    ghost output = { λ f. Some (fault_text (fault_number f)) };
+
+    fn fmt<W: Write>(&self, f: &mut Formatter<W>) -> Result<(), fmt::Error> {
+        write!(f, "fault {}", self.number())
+    }
+}
+
+impl Error for MarkFault {}
 
 impl Mark {
     // Named, and no `From<Mark> for char`: a bare `char` does not say that it is the letter.

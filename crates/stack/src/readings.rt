@@ -5,6 +5,9 @@ ghost use Rattle.stack.specs.Quantities.{in_range};
 
 use crate::marks::{Mark, MarkFault};
 use crate::quantities::Quantities;
+use std::error::Error;
+use std::fmt;
+use std::fmt::{Display, Formatter, Write};
 
 // A mark's letter and six numbers, unchecked.
 #[derive(Clone, Copy)]
@@ -42,6 +45,21 @@ impl ReadingFault {
         }
     }
 }
+
+// As `fault 14`.
+impl Display for ReadingFault {
+    ghost use Rattle.std.specs.Prelude.{Some};
+    ghost use Rattle.calendar.specs.Faults.{fault_text};
+    ghost use Rattle.stack.specs.Readings.{fault_number};
+
+    ghost output = { λ f. Some (fault_text (fault_number f)) };
+
+    fn fmt<W: Write>(&self, f: &mut Formatter<W>) -> Result<(), fmt::Error> {
+        write!(f, "fault {}", self.number())
+    }
+}
+
+impl Error for ReadingFault {}
 
 // By hand, as that of `HourFault`: a derived `From` would not promise what it gives.
 impl From<MarkFault> for ReadingFault {

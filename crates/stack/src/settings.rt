@@ -2,6 +2,10 @@
 ghost use Rattle.std.specs.Prelude.{◌≡◌};
 ghost use Rattle.calendar.specs.Days.{Within};
 
+use std::error::Error;
+use std::fmt;
+use std::fmt::{Display, Formatter, Write};
+
 // What the CO2 share is measured in: wet gas as it flows, or gas whose water was taken out.
 #[derive(Clone, Copy, PartialEq, Eq, Debug)]
 pub enum Basis {
@@ -40,6 +44,21 @@ impl SettingsFault {
     }
 }
 
+// As `fault 2`.
+impl Display for SettingsFault {
+    ghost use Rattle.std.specs.Prelude.{Some};
+    ghost use Rattle.calendar.specs.Faults.{fault_text};
+    ghost use Rattle.stack.specs.Settings.{fault_number};
+
+    ghost output = { λ f. Some (fault_text (fault_number f)) };
+
+    fn fmt<W: Write>(&self, f: &mut Formatter<W>) -> Result<(), fmt::Error> {
+        write!(f, "fault {}", self.number())
+    }
+}
+
+impl Error for SettingsFault {}
+
 // The basis that a letter stands for: W or D.
 impl TryFrom<char> for Basis {
     ghost use Rattle.std.specs.Prelude.{◌≡◌};
@@ -63,7 +82,7 @@ impl TryFrom<char> for Basis {
 impl Basis {
     ghost use Rattle.stack.specs.Settings.{letter_of};
 
-    // Named, as that of a mark.
+    // Named, as that of a mark: a bare `char` does not say that it is the letter.
     pub fn letter(self) -> char
         ensures { result ≡ letter_of self }
     {

@@ -33,7 +33,8 @@ fn hundreds_of_seconds(span: Span) -> u64
     }
 }
 
-// How many valid minutes a figure needs.
+// How many valid minutes a figure needs. A table of its own, as the one above and `places_a_day` of a span: the three numbers
+// are of different parts.
 pub(crate) fn least_minutes(span: Span) -> usize
     ensures { result ≡ least_minutes span }
 {
@@ -48,8 +49,8 @@ pub(crate) fn least_minutes(span: Span) -> usize
 fn flow(span: Span, settings: &StackSettings, means: &Means) -> Litres
     ensures { result.0 ≡ flow_of span settings.now means.now.quantities.speed.0 }
 {
-    let rate = settings.area as u64 * settings.speed_factor as u64;
-    let product = hundreds_of_seconds(span) * rate * means.quantities.speed.0 as u64;
+    let rate = u64::from(settings.area) * u64::from(settings.speed_factor);
+    let product = hundreds_of_seconds(span) * rate * u64::from(means.quantities.speed.0);
     Litres(nearest(product, NonZeroU64::new(1000).unwrap()))
 }
 
@@ -57,7 +58,7 @@ fn flow(span: Span, settings: &StackSettings, means: &Means) -> Litres
 fn absolute_temperature(means: &Means) -> u64
     ensures { result ≡ unsigned_abs (pos 2730 +ℤ means.now.quantities.temperature.0) }
 {
-    (2730 + means.quantities.temperature.0 as i64) as u64
+    (2730 + i64::from(means.quantities.temperature.0)) as u64
 }
 
 // The pressure in the stack, in pascals: that of the air outside, and the static pressure on top.
@@ -65,7 +66,7 @@ fn stack_pressure(means: &Means) -> u64
     ensures { result ≡ unsigned_abs (stack_pressure means.now.quantities) }
 {
     let quantities = means.quantities;
-    (quantities.air_pressure.to_pascals().0 + quantities.static_pressure.0 as i32) as u64
+    (quantities.air_pressure.to_pascals().0 + i32::from(quantities.static_pressure.0)) as u64
 }
 
 // A volume times a fraction, to the nearest whole number.
@@ -85,12 +86,13 @@ fn on_basis(basis: Basis, gas: Litres, means: &Means) -> Litres
 {
     match basis {
         Basis::Wet => gas,
-        Basis::Dry => Litres(scaled(gas, 10_000 - means.quantities.moisture.0 as u64, 10_000)),
+        Basis::Dry => Litres(scaled(gas, 10_000 - u64::from(means.quantities.moisture.0), 10_000)),
     }
 }
 
 impl Steps {
-    // The working from means, step by step.
+    // The working from means, step by step. A figure is of these three things; a struct of a span and settings would only spell
+    // `Steps::of(span, settings, means)` longer.
     #[tactic(auto, using(crate::proofs::Limits::products_fit), unfolding(crate::specs::Steps::at_zero_of, crate::specs::Steps::at_standard_of, crate::specs::Steps::co2_of, crate::specs::Steps::grams_of))]
     pub fn of(span: Span, settings: &StackSettings, means: &Means) -> Steps
         ensures { result ≡ steps_of span settings.now means.now.quantities }
@@ -99,7 +101,7 @@ impl Steps {
         let at_zero = Litres(scaled(flow, 2730, absolute_temperature(means)));
         let at_standard = Litres(scaled(at_zero, stack_pressure(means), 101_325));
         let on_basis = on_basis(settings.basis, at_standard, means);
-        let co2 = Litres(scaled(on_basis, means.quantities.co2.0 as u64, 10_000));
+        let co2 = Litres(scaled(on_basis, u64::from(means.quantities.co2.0), 10_000));
         // A litre of CO2 at 0 °C and 101325 Pa weighs 1.97 g.
         let grams = Grams(scaled(co2, 197, 100));
         Steps {

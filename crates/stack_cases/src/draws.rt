@@ -1,41 +1,51 @@
 // Numbers drawn by a linear congruential generator, and readings of them.
 use calendar::{CentimetresPerSecond, Hectopascals, HundredthsPercent, Pascals, TenthsCelsius};
 use stack::{Quantities, RawReading};
+use std::ops::RangeInclusive;
 
 #[derive(Drop)]
 pub struct Draws {
     pub state: u64,
 }
 
-// For each quantity the least number, and how much more the greatest is.
+// The numbers that each quantity may be.
+#[derive(Drop)]
 pub struct Ranges {
-    co2: (u16, u16),
-    moisture: (u16, u16),
-    speed: (u16, u16),
-    temperature: (i16, u16),
-    static_pressure: (i16, u16),
-    air_pressure: (u16, u16),
+    co2: RangeInclusive<i16>,
+    moisture: RangeInclusive<i16>,
+    speed: RangeInclusive<i16>,
+    temperature: RangeInclusive<i16>,
+    static_pressure: RangeInclusive<i16>,
+    air_pressure: RangeInclusive<i16>,
 }
 
-// The whole of the ranges of a valid minute.
-pub const WIDE: Ranges = Ranges {
-    co2: (0, 3000),
-    moisture: (0, 4000),
-    speed: (0, 6000),
-    temperature: (-400, 3400),
-    static_pressure: (-10_000, 20_000),
-    air_pressure: (500, 600),
-};
+impl Ranges {
+    // The whole of the ranges of a valid minute.
+    pub fn wide() -> Ranges {
+        Ranges {
+            co2: 0..=3000,
+            moisture: 0..=4000,
+            speed: 0..=6000,
+            temperature: -400..=3000,
+            static_pressure: -10_000..=10_000,
+            air_pressure: 500..=1100,
+        }
+    }
 
-// Numbers that differ by little, some around 0: their means are often halves.
-pub const NARROW: Ranges = Ranges {
-    co2: (1200, 1),
-    moisture: (0, 1),
-    speed: (999, 1),
-    temperature: (-3, 3),
-    static_pressure: (-2, 3),
-    air_pressure: (1013, 1),
-};
+    // Numbers that differ by little, some around 0: their means are often halves.
+    pub fn narrow() -> Ranges {
+        Ranges {
+            co2: 1200..=1201,
+            moisture: 0..=1,
+            speed: 999..=1000,
+            temperature: -3..=0,
+            static_pressure: -2..=1,
+            air_pressure: 1013..=1014,
+        }
+    }
+}
+
+const INVALID_MARKS: [char; 8] = ['B', 'R', 'Q', 'O', 'S', 'P', 'C', 'L'];
 
 impl Draws {
     // The upper 31 bits of the next state.
@@ -52,22 +62,19 @@ impl Draws {
         (self.next() % (u64::from(most) + 1)) as u16
     }
 
-    fn unsigned(&mut self, (least, more): (u16, u16)) -> u16 {
-        least.wrapping_add(self.at_most(more))
-    }
-
-    fn signed(&mut self, (least, more): (i16, u16)) -> i16 {
-        least.wrapping_add_unsigned(self.at_most(more))
+    fn one_of(&mut self, range: &RangeInclusive<i16>) -> i16 {
+        let more = range.end().abs_diff(*range.start());
+        range.start().wrapping_add_unsigned(self.at_most(more))
     }
 
     fn within(&mut self, ranges: &Ranges) -> Quantities {
         Quantities {
-            co2: HundredthsPercent(self.unsigned(ranges.co2)),
-            moisture: HundredthsPercent(self.unsigned(ranges.moisture)),
-            speed: CentimetresPerSecond(self.unsigned(ranges.speed)),
-            temperature: TenthsCelsius(self.signed(ranges.temperature)),
-            static_pressure: Pascals(self.signed(ranges.static_pressure)),
-            air_pressure: Hectopascals(self.unsigned(ranges.air_pressure)),
+            co2: HundredthsPercent(self.one_of(&ranges.co2).cast_unsigned()),
+            moisture: HundredthsPercent(self.one_of(&ranges.moisture).cast_unsigned()),
+            speed: CentimetresPerSecond(self.one_of(&ranges.speed).cast_unsigned()),
+            temperature: TenthsCelsius(self.one_of(&ranges.temperature)),
+            static_pressure: Pascals(self.one_of(&ranges.static_pressure)),
+            air_pressure: Hectopascals(self.one_of(&ranges.air_pressure).cast_unsigned()),
         }
     }
 
@@ -94,16 +101,7 @@ impl Draws {
     }
 
     fn invalid_mark(&mut self) -> char {
-        match self.next() % 8 {
-            0 => 'B',
-            1 => 'R',
-            2 => 'Q',
-            3 => 'O',
-            4 => 'S',
-            5 => 'P',
-            6 => 'C',
-            _ => 'L',
-        }
+        INVALID_MARKS[(self.next() % 8) as usize]
     }
 
     // A reading that is valid in so many cases of ten.

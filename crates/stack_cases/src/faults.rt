@@ -7,9 +7,9 @@ use std::io;
 // Every character of ASCII as a mark.
 pub fn marks(rt: &impl Print) -> io::Result<()> {
     for code in 0..128u8 {
-        match Mark::try_from(code as char) {
+        match Mark::try_from(char::from(code)) {
             Ok(mark) => println!(rt; "mark {code} {} {}", mark.letter(), mark.is_valid())?,
-            Err(fault) => println!(rt; "mark {code} fault {}", fault.number())?,
+            Err(fault) => println!(rt; "mark {code} {fault}")?,
         }
     }
     Ok(())
@@ -35,17 +35,14 @@ fn one_stack(rt: &impl Print, area: u16, factor: u16, letter: char) -> io::Resul
             settings.speed_factor,
             settings.basis.letter()
         ),
-        Err(fault) => println!(rt;
-            "settings {area} {factor} {letter} fault {}",
-            fault.number()
-        ),
+        Err(fault) => println!(rt; "settings {area} {factor} {letter} {fault}"),
     }
 }
 
 fn judge(rt: &impl Print, raw: RawReading) -> io::Result<()> {
     match Reading::try_from(raw) {
         Ok(reading) => println!(rt; "reading {} kept", reading.mark.letter()),
-        Err(fault) => println!(rt; "reading {} fault {}", raw.mark, fault.number()),
+        Err(fault) => println!(rt; "reading {} {fault}", raw.mark),
     }
 }
 
@@ -126,14 +123,8 @@ pub fn ranges(rt: &impl Print) -> io::Result<()> {
 fn send(rt: &impl Print, readings: &[RawReading]) -> io::Result<()> {
     match StackHour::try_from(readings) {
         Ok(_) => println!(rt; "hour kept"),
-        Err(fault) => match fault {
-            HourFault::NotSixty => println!(rt; "hour fault {}", fault.number()),
-            HourFault::Minute(at) => println!(rt;
-                "hour fault {} minute {}",
-                fault.number(),
-                at.minute
-            ),
-        },
+        Err(HourFault::Minute(at)) => println!(rt; "hour {} minute {}", at.fault, at.minute),
+        Err(fault) => println!(rt; "hour {fault}"),
     }
 }
 

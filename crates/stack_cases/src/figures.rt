@@ -1,11 +1,12 @@
 // Figures of intervals and hours.
-use crate::draws::{Draws, NARROW, Ranges, WIDE, sample};
+use crate::draws::{Draws, Ranges, sample};
 use calendar::{
     CentimetresPerSecond, Hectopascals, HundredthsPercent, Pascals, Span, TenthsCelsius,
 };
-use stack::{Means, Quantities, RawReading, SettingsFault, StackHour, StackSettings, Steps};
+use stack::{Means, Quantities, RawReading, StackHour, StackSettings, Steps};
 use std::io;
 
+// What is printed of means, steps, intervals and hours is in figures alone; `stack_walkthrough` has words for them.
 fn show_means(rt: &impl Print, means: &Means) -> io::Result<()> {
     let q = means.quantities;
     println!(rt;
@@ -62,28 +63,19 @@ fn show(rt: &impl Print, settings: &StackSettings, readings: &[RawReading]) -> i
     }
 }
 
-fn show_with(
-    rt: &impl Print,
-    settings: Result<StackSettings, SettingsFault>,
-    readings: &[RawReading],
-) -> io::Result<()> {
-    match settings {
-        Ok(settings) => show(rt, &settings, readings),
-        Err(_) => println!(rt; "no settings"),
-    }
-}
-
 // The sample hour, wet and dry, then with moisture, then warmer.
 pub fn known(rt: &impl Print) -> io::Result<()> {
+    let wet = StackSettings::of(1000, 10_000, 'W').unwrap();
+    let dry = StackSettings::of(1000, 10_000, 'D').unwrap();
     let mut reading = sample();
-    show_with(rt, StackSettings::of(1000, 10_000, 'W'), &[reading; 60])?;
-    show_with(rt, StackSettings::of(1000, 10_000, 'D'), &[reading; 60])?;
+    show(rt, &wet, &[reading; 60])?;
+    show(rt, &dry, &[reading; 60])?;
     reading.quantities.moisture = HundredthsPercent(1000);
-    show_with(rt, StackSettings::of(1000, 10_000, 'W'), &[reading; 60])?;
-    show_with(rt, StackSettings::of(1000, 10_000, 'D'), &[reading; 60])?;
+    show(rt, &wet, &[reading; 60])?;
+    show(rt, &dry, &[reading; 60])?;
     reading.quantities.moisture = HundredthsPercent(0);
     reading.quantities.temperature = TenthsCelsius(1000);
-    show_with(rt, StackSettings::of(1000, 10_000, 'W'), &[reading; 60])
+    show(rt, &wet, &[reading; 60])
 }
 
 fn keep_valid(readings: &mut [RawReading], count: usize) {
@@ -94,10 +86,11 @@ fn keep_valid(readings: &mut [RawReading], count: usize) {
 
 // Hours of which only the first minutes are valid.
 pub fn counts(rt: &impl Print) -> io::Result<()> {
+    let wet = StackSettings::of(1000, 10_000, 'W').unwrap();
     for count in [0usize, 1, 11, 12, 14, 15, 26, 27, 44, 45, 59, 60] {
         let mut readings = [sample(); 60];
         keep_valid(&mut readings, count);
-        show_with(rt, StackSettings::of(1000, 10_000, 'W'), &readings)?;
+        show(rt, &wet, &readings)?;
     }
     Ok(())
 }
@@ -121,13 +114,15 @@ pub fn extremes(rt: &impl Print) -> io::Result<()> {
         air_pressure: Hectopascals(500),
     };
     for basis in ['W', 'D'] {
+        let large = StackSettings::of(20_000, 20_000, basis).unwrap();
+        let small = StackSettings::of(1, 1, basis).unwrap();
         for quantities in [high, low] {
             let reading = RawReading {
                 mark: 'V',
                 quantities,
             };
-            show_with(rt, StackSettings::of(20_000, 20_000, basis), &[reading; 60])?;
-            show_with(rt, StackSettings::of(1, 1, basis), &[reading; 60])?;
+            show(rt, &large, &[reading; 60])?;
+            show(rt, &small, &[reading; 60])?;
         }
     }
     Ok(())
@@ -142,15 +137,21 @@ fn draw(draws: &mut Draws, readings: &mut [RawReading], valid_of_ten: u64, range
 // Hours whose settings, marks and numbers are drawn.
 pub fn drawn(rt: &impl Print) -> io::Result<()> {
     let mut draws = Draws { state: 20_240_401 };
+    let wide = Ranges::wide();
+    let narrow = Ranges::narrow();
     for turn in 0..60u64 {
-        for ranges in [&WIDE, &NARROW] {
+        for ranges in [&wide, &narrow] {
             let area = (draws.next() % 20_000) as u16 + 1;
             let factor = (draws.next() % 20_000) as u16 + 1;
             let basis = if draws.next() % 2 == 0 { 'W' } else { 'D' };
             let mut readings = [sample(); 60];
             draw(&mut draws, &mut readings, 6 + turn % 5, ranges);
             println!(rt; "drawn {area} {factor} {basis}")?;
-            show_with(rt, StackSettings::of(area, factor, basis), &readings)?;
+            show(
+                rt,
+                &StackSettings::of(area, factor, basis).unwrap(),
+                &readings,
+            )?;
         }
     }
     Ok(())

@@ -2,10 +2,12 @@
 use calendar::{
     CentimetresPerSecond, Hectopascals, HundredthsPercent, Pascals, Span, TenthsCelsius,
 };
-use stack::{HourFault, Means, Quantities, RawReading, StackHour, StackSettings, Steps};
+use stack::{Means, Quantities, RawReading, StackHour, StackSettings, Steps};
 use std::io;
 
-// Sample, means and steps are here and in `stack_cases`, printed in other words: a crate for both would be longer than they are.
+// This value and what is printed of means, steps and intervals stand in `stack_cases` too. There the words are others, and a
+// crate for the value alone would be longer than it is.
+
 // A valid minute: 10 % CO2, 10 m/s, 0 °C, 25 Pa above an air pressure of 1013 hPa.
 fn sample() -> RawReading {
     RawReading {
@@ -37,7 +39,8 @@ fn show_steps(rt: &impl Print, steps: Steps) -> io::Result<()> {
     println!(rt; "  Figure: {} g of CO2.", steps.grams.0)
 }
 
-// Here and below the runtime prints and the settings are data: a struct of both would say less than two parameters.
+// The runtime and the settings go together from here on, and stay two parameters: `Printer { rt, settings }.show_interval(..)`
+// says no more than `show_interval(rt, settings, ..)`.
 fn show_interval(
     rt: &impl Print,
     settings: &StackSettings,
@@ -68,17 +71,6 @@ fn show_hour(rt: &impl Print, settings: &StackSettings, hour: &StackHour) -> io:
     }
 }
 
-fn show_refusal(rt: &impl Print, fault: HourFault) -> io::Result<()> {
-    let number = fault.number();
-    match fault {
-        HourFault::NotSixty => println!(rt; "Refused with fault {number}."),
-        HourFault::Minute(at) => println!(rt;
-            "Refused with fault {number} at minute {}.",
-            at.minute
-        ),
-    }
-}
-
 // Sends an hour, and shows one of its intervals and the whole.
 fn send(
     rt: &impl Print,
@@ -91,7 +83,7 @@ fn send(
             show_interval(rt, settings, &hour, quarter)?;
             show_hour(rt, settings, &hour)
         }
-        Err(fault) => show_refusal(rt, fault),
+        Err(fault) => println!(rt; "Refused with {fault}."),
     }
 }
 
@@ -123,6 +115,6 @@ pub fn show(rt: &impl Print) -> io::Result<()> {
     println!(rt; "Another with basis X.")?;
     match StackSettings::of(1000, 10_000, 'X') {
         Ok(_) => Ok(()),
-        Err(fault) => println!(rt; "Refused with fault {}.", fault.number()),
+        Err(fault) => println!(rt; "Refused with {fault}."),
     }
 }

@@ -42,8 +42,7 @@ fn ask_for_term(rt: &impl Print, year: u16, month: u8, day: u8, days: u8) -> io:
     match Term::of(year, month, day, days) {
         Ok(term) => show_term(rt, term),
         Err(fault) => println!(rt;
-            "Refused with fault {}: the date or the number of days is out of range.",
-            fault.number()
+            "Refused with {fault}: the date or the number of days is out of range."
         ),
     }
 }

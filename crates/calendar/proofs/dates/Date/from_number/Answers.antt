@@ -14,9 +14,10 @@ pub returns : goal.returns
 unfolding day_number
 returns c =
     let n : ℕ = c.args.number in
-    let y = year_found n (omega arith) in
-    let m = month_over (year n) c.month_of_day-month.result (omega arith) in
-    let w : Day = record { year = year n; month = c.month_of_day-month.result; day = n - c.days_before_year.result - c.days_before-begin.result + 1 } in
+    let k : ℕ = c.from.result in
+    let y = year_found k (omega arith) in
+    let m = month_over (year k) c.month_of_day-month.result (omega arith) in
+    let w : Day = record { year = year k; month = c.month_of_day-month.result; day = n - c.days_before_year.result - c.days_before-begin.result + 1 } in
     let l : Lawful w = omega arith in
     let h : day_number w ≡ n = omega arith in
     let p = number_is n w c.of.result l h c.of.ensures in
