@@ -2,7 +2,7 @@
 // and the term of a book with its hours, intervals and months.
 #![tactic(auto)]
 
-// The modules that declare types are public too.
+// The modules that declare public types or traits are public too.
 pub mod dates;
 mod held_laws;
 pub mod months;

@@ -36,7 +36,8 @@ impl Month {
         ensures { result ≡ month_length self.year self.month }
     {
         match self.month {
-            2 => { if is_leap(self.year) { 29 } else { 28 } }
+            2 if is_leap(self.year) => 29,
+            2 => 28,
             4 | 6 | 9 | 11 => 30,
             _ => 31,
         }

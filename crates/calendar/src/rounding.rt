@@ -21,7 +21,7 @@ pub trait Dividend: Sized {
     ghost rounds: { (a : Self) (b : ℕ) → integer (nearest a b) ≡ nearest_ℤ (integer a) b };
 }
 
-// Every 64-bit dividend, doubled, fits 128 bits.
+// The integer nearest to a / b. A dividend of 64 bits, doubled, fits 128.
 fn nearest_integer(a: i128, b: NonZeroU64) -> i128
     requires low { neg_ℤ (pos 9223372036854775808) ≤ℤ a }
     requires high { a ≤ℤ pos 18446744073709551615 }

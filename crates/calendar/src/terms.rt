@@ -58,8 +58,8 @@ impl Term {
     ghost use Rattle.calendar.specs.Terms.{TermOf, places_of, term_day, last_number, DateOfTermDay};
     ghost use Rattle.calendar.specs.Months.{touched_months, touched_month, month_span};
 
-    // The term that begins on a day and has that many days, or fault 1. (Three numbers name the day, as in `Date::of`: with a
-    // struct of them, `Term::of(2024, 4, 1, 92)` were `Term::of(Day { year: 2024, month: 4, day: 1 }, 92)`.)
+    // The term that begins on a day and has that many days, or fault 1. (Three numbers name the day, as in `Date::of`: a struct
+    // of them would make `Term::of(Day { year: 2024, month: 4, day: 1 }, 92)` of `Term::of(2024, 4, 1, 92)`.)
     #[tactic(auto, unfolding(crate::specs::Terms::lawful_term))]
     pub fn of(year: u16, month: u8, day: u8, days: u8) -> Result<Term, TermFault>
         ensures { TermOf (record { first = record { year = year; month = month; day = day }; days = days }) result }

@@ -2,7 +2,7 @@
 // and the working from the valid minutes of an interval or an hour to grams of CO2.
 #![tactic(auto)]
 
-// The modules that declare types are public too.
+// The modules that declare public types or traits are public too.
 mod held_laws;
 pub mod hours;
 pub mod marks;

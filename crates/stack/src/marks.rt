@@ -39,6 +39,17 @@ impl MarkFault {
     }
 }
 
+// As `fault 13`.
+impl Display for MarkFault {
+    ghost output = { λ f. Some (fault_text (fault_number f)) };
+
+    fn fmt<W: Write>(&self, f: &mut Formatter<W>) -> Result<(), fmt::Error> {
+        write!(f, "fault {}", self.number())
+    }
+}
+
+impl Error for MarkFault {}
+
 // The mark that a letter stands for. Small letters are none.
 impl TryFrom<char> for Mark {
     type Error = MarkFault;
@@ -60,17 +71,6 @@ impl TryFrom<char> for Mark {
         }
     }
 }
-
-// As `fault 13`.
-impl Display for MarkFault {
-    ghost output = { λ f. Some (fault_text (fault_number f)) };
-
-    fn fmt<W: Write>(&self, f: &mut Formatter<W>) -> Result<(), fmt::Error> {
-        write!(f, "fault {}", self.number())
-    }
-}
-
-impl Error for MarkFault {}
 
 impl Mark {
     // Named, and no `From<Mark> for char`: a bare `char` does not say that it is the letter.

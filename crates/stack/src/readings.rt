@@ -33,6 +33,7 @@ pub enum ReadingFault {
     OutOfRange,
 }
 
+// A `match` of its own, as each fault type has.
 impl ReadingFault {
     ghost use Rattle.stack.specs.Readings.{fault_number};
 

@@ -96,7 +96,7 @@ impl Basis {
 impl StackSettings {
     ghost use Rattle.stack.specs.Settings.{SettingsOf};
 
-    // Settings with these values, or fault 2.
+    // Settings with these values, or fault 2. (They are what the struct is made of: no other holds them before.)
     pub fn of(area: u16, speed_factor: u16, basis: char) -> Result<StackSettings, SettingsFault>
         ensures { SettingsOf (record { area = area; speed_factor = speed_factor; basis = basis }) result }
     {

@@ -1,11 +1,11 @@
 // The steps from means to grams, each rounded to the nearest. Volumes are litres.
-ghost use Rattle.std.specs.Prelude.{◌≡◌, ◌-◌, ◌*◌, ◌^◌, ◌<◌, ◌≤◌, pos, ◌+ℤ◌, unsigned_abs};
+ghost use Rattle.std.specs.Prelude.{◌≡◌, ◌-◌, ◌*◌, ◌^◌, ◌<◌, ◌≤◌, pos, ◌+ℤ◌, ◌≤ℤ◌, unsigned_abs};
 ghost use Rattle.calendar.specs.Rounding.{nearest_ℕ};
 ghost use Rattle.stack.specs.Steps.{hundreds_of_seconds, least_minutes, flow_of, stack_pressure, on_basis_of, steps_of};
 
 use crate::means::Means;
 use crate::settings::{Basis, StackSettings};
-use calendar::{Grams, Litres, Span, nearest};
+use calendar::{Grams, Litres, Pascals, Span, nearest};
 use std::num::NonZeroU64;
 
 // Each step of a working.
@@ -23,6 +23,7 @@ pub struct Steps {
     pub grams: Grams,
 }
 
+// 900 s and 3600 s.
 fn hundreds_of_seconds(span: Span) -> u64
     ensures value { result ≡ hundreds_of_seconds span }
     ensures bound { result ≤ 36 }
@@ -33,8 +34,8 @@ fn hundreds_of_seconds(span: Span) -> u64
     }
 }
 
-// How many valid minutes a figure needs. A table of its own, as the one above and `places_a_day` of a span: the three numbers
-// are of different parts.
+// How many valid minutes a figure needs. A function as the one above, and no method: `Span` is of `calendar`, which knows
+// no figures.
 pub(crate) fn least_minutes(span: Span) -> usize
     ensures { result ≡ least_minutes span }
 {
@@ -61,12 +62,13 @@ fn absolute_temperature(means: &Means) -> u64
     (2730 + i64::from(means.quantities.temperature.0)) as u64
 }
 
-// The pressure in the stack, in pascals: that of the air outside, and the static pressure on top.
-fn stack_pressure(means: &Means) -> u64
-    ensures { result ≡ unsigned_abs (stack_pressure means.now.quantities) }
+// The pressure in the stack: that of the air outside, and the static pressure on top.
+fn stack_pressure(means: &Means) -> Pascals<i32>
+    ensures value { result.0 ≡ stack_pressure means.now.quantities }
+    ensures positive { pos 0 ≤ℤ result.0 }
 {
     let quantities = means.quantities;
-    (quantities.air_pressure.to_pascals().0 + i32::from(quantities.static_pressure.0)) as u64
+    Pascals(quantities.air_pressure.to_pascals().0 + i32::from(quantities.static_pressure.0))
 }
 
 // A volume times a fraction, to the nearest whole number.
@@ -99,7 +101,7 @@ impl Steps {
     {
         let flow = flow(span, settings, means);
         let at_zero = Litres(scaled(flow, 2730, absolute_temperature(means)));
-        let at_standard = Litres(scaled(at_zero, stack_pressure(means), 101_325));
+        let at_standard = Litres(scaled(at_zero, stack_pressure(means).0 as u64, 101_325));
         let on_basis = on_basis(settings.basis, at_standard, means);
         let co2 = Litres(scaled(on_basis, u64::from(means.quantities.co2.0), 10_000));
         // A litre of CO2 at 0 °C and 101325 Pa weighs 1.97 g.

@@ -8,7 +8,7 @@ pub struct Draws {
     pub state: u64,
 }
 
-// The numbers that each quantity may be.
+// The numbers that each quantity may be. All of them fit `i16`, so that `one_of` draws from each.
 #[derive(Drop)]
 pub struct Ranges {
     co2: RangeInclusive<i16>,

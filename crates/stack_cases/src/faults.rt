@@ -4,7 +4,7 @@ use calendar::{CentimetresPerSecond, Hectopascals, HundredthsPercent, Pascals, T
 use stack::{HourFault, Mark, Quantities, RawReading, Reading, StackHour, StackSettings};
 use std::io;
 
-// Every character of ASCII as a mark.
+// Every character of ASCII as a mark. (Letters are printed as `mark.letter()`: `{mark}` would not say that it is the letter.)
 pub fn marks(rt: &impl Print) -> io::Result<()> {
     for code in 0..128u8 {
         match Mark::try_from(char::from(code)) {
@@ -149,7 +149,7 @@ impl Spoilt {
 
 const WAYS: [Spoilt; 3] = [Spoilt::Mark, Spoilt::Both, Spoilt::Number];
 
-fn spoil(readings: &mut [RawReading], minute: usize, way: Spoilt) {
+fn spoil_minute(readings: &mut [RawReading], minute: usize, way: Spoilt) {
     if let Some(reading) = readings.get_mut(minute) {
         way.spoil(reading);
     }
@@ -161,8 +161,8 @@ pub fn hours(rt: &impl Print) -> io::Result<()> {
         for way in WAYS {
             for other in WAYS {
                 let mut readings = [sample(); 60];
-                spoil(&mut readings, first, way);
-                spoil(&mut readings, second, other);
+                spoil_minute(&mut readings, first, way);
+                spoil_minute(&mut readings, second, other);
                 send(rt, &readings)?;
             }
         }
@@ -171,6 +171,6 @@ pub fn hours(rt: &impl Print) -> io::Result<()> {
     send(rt, &long[0..0])?;
     send(rt, &long[0..59])?;
     send(rt, &long[0..60])?;
-    spoil(&mut long, 3, Spoilt::Mark);
+    spoil_minute(&mut long, 3, Spoilt::Mark);
     send(rt, &long)
 }

@@ -6,7 +6,8 @@ use calendar::{
 use stack::{Means, Quantities, RawReading, StackHour, StackSettings, Steps};
 use std::io;
 
-// What is printed of means, steps, intervals and hours is in figures alone; `stack_walkthrough` has words for them.
+// What is printed of means, steps, intervals and hours is in numbers alone, without their units; `stack_walkthrough` has words
+// for them. The runtime and the settings stay two parameters, as there.
 fn show_means(rt: &impl Print, means: &Means) -> io::Result<()> {
     let q = means.quantities;
     println!(rt;

@@ -23,6 +23,7 @@ fn sample() -> RawReading {
     }
 }
 
+// Numbers in the units of the readings, which the text does not repeat.
 fn show_means(rt: &impl Print, means: &Means) -> io::Result<()> {
     let q = means.quantities;
     println!(rt;
@@ -47,16 +48,15 @@ fn show_interval(
     hour: &StackHour,
     quarter: usize,
 ) -> io::Result<()> {
-    let (figure, minutes) = hour.interval_figure(settings, quarter);
+    let (_, minutes) = hour.interval_figure(settings, quarter);
     println!(rt; "Interval {quarter} of the hour has {minutes} valid minutes.")?;
-    if figure.is_none() {
-        return println!(rt; "  It has no figure: 12 are needed.");
+    match hour.interval_means(quarter) {
+        Some(means) => {
+            show_means(rt, &means)?;
+            show_steps(rt, Steps::of(Span::Interval, settings, &means))
+        }
+        None => println!(rt; "  It has no figure: 12 are needed."),
     }
-    if let Some(means) = hour.interval_means(quarter) {
-        show_means(rt, &means)?;
-        show_steps(rt, Steps::of(Span::Interval, settings, &means))?;
-    }
-    Ok(())
 }
 
 fn show_hour(rt: &impl Print, settings: &StackSettings, hour: &StackHour) -> io::Result<()> {

@@ -72,6 +72,7 @@ fn show_rounding(rt: &impl Print) -> io::Result<()> {
     println!(rt; "A quarter of 70000001, rounded up, is {quarter}.")
 }
 
+// The sentences name the units, so only numbers are printed.
 fn show_units(rt: &impl Print) -> io::Result<()> {
     let sum = Kilograms(8u32).to_grams() + Grams(500);
     println!(rt;
