@@ -14,7 +14,7 @@ pub mod units;
 pub use dates::Date;
 pub use held_laws::{date_laws, month_laws, rounding_laws, term_laws};
 pub use months::{Month, MonthSpan};
-pub use rounding::{Dividend, nearest, round_up};
+pub use rounding::{Dividend, nearest, nearest_signed, round_up};
 pub use spans::Span;
 pub use terms::{Term, TermFault};
 pub use units::{

@@ -57,11 +57,19 @@ impl Dividend for i64 {
     }
 }
 
-// The whole number nearest to a / b, also below zero: the mean of −5 and −6 is −5.
-pub fn nearest<N: Dividend>(a: N, b: NonZeroU64) -> N
-    ensures { result ≡ N.nearest a (non_zero_u64_get b) }
+// The whole number nearest to a / b. This call and the next take one type each and are not generic: so `nearest(11, two)` needs
+// no type written, and each can be passed where a function is asked for.
+pub fn nearest(a: u64, b: NonZeroU64) -> u64
+    ensures { result ≡ nearest_ℕ a (non_zero_u64_get b) }
 {
-    a.nearest(b)
+    u64::nearest(a, b)
+}
+
+// The same where a may lie below zero: the mean of −5 and −6 is −5.
+pub fn nearest_signed(a: i64, b: NonZeroU64) -> i64
+    ensures { result ≡ nearest_ℤ a (non_zero_u64_get b) }
+{
+    i64::nearest(a, b)
 }
 
 // The smallest whole number not below a / b.

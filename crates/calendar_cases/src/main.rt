@@ -1,7 +1,7 @@
 // Prints what the calendar part answers over grids of cases. `stdout` has the same, worked by tools/calendar_cases.py.
 #![tactic(auto)]
 
-use calendar::{Date, Month, Span, Term, nearest, round_up};
+use calendar::{Date, Month, Span, Term, nearest, nearest_signed, round_up};
 use std::io;
 use std::num::NonZeroU64;
 
@@ -136,7 +136,7 @@ fn quotients(rt: &impl Print) -> io::Result<()> {
 fn one_quotient(rt: &impl Print, a: u64, b: NonZeroU64) -> io::Result<()> {
     let near = nearest(a, b);
     let up = round_up(a, b);
-    let below = nearest(-((a / 2) as i64), b);
+    let below = nearest_signed(-((a / 2) as i64), b);
     println!(rt; "{a} {b} {near} {up} {below}")
 }
 

@@ -1,7 +1,9 @@
 // Goes through a task of the library from beginning to end, and prints each step in plain sentences.
 #![tactic(auto)]
 
-use calendar::{Grams, Hectopascals, Kilograms, Month, Span, Term, nearest, round_up};
+use calendar::{
+    Grams, Hectopascals, Kilograms, Month, Span, Term, nearest, nearest_signed, round_up,
+};
 use std::io;
 use std::num::NonZeroU64;
 
@@ -65,8 +67,8 @@ fn show_rounding(rt: &impl Print) -> io::Result<()> {
     let two = NonZeroU64::new(2).unwrap();
     println!(rt;
         "Half-way cases round up: the mean of -5 and -6 is {}, the mean of 5 and 6 is {}.",
-        nearest(-5i64 - 6, two),
-        nearest(5u64 + 6, two)
+        nearest_signed(-5 - 6, two),
+        nearest(5 + 6, two)
     )?;
     let quarter = round_up(70_000_001, NonZeroU64::new(4).unwrap());
     println!(rt; "A quarter of 70000001, rounded up, is {quarter}.")
