@@ -3,6 +3,8 @@ ghost use Rattle.std.specs.Prelude.{◌≡◌, Some};
 ghost use Rattle.calendar.specs.Days.{Within, leap, month_length, days_before_month};
 ghost use Rattle.calendar.specs.Dates.{month_text};
 
+// The call that holds the laws of a term's months is found here too.
+pub use crate::held_laws::month_laws;
 use std::fmt;
 use std::fmt::{Display, Formatter, Write};
 

@@ -1,5 +1,5 @@
 -- How high each step can be: it grows with what goes into it.
-use Rattle.std.proofs.Common.{◌≡◌, ℕ, suc, ◌+◌, ◌-◌, ◌*◌, ◌<◌, ◌≤◌, pos, ◌+ℤ◌, nat_abs, inl, inr, mul_assoc, mul_comm, add-mul, mul-suc, arith, rules, lit<}
+use Rattle.std.proofs.Common.{◌≡◌, ℕ, suc, ◌+◌, ◌-◌, ◌*◌, ◌<◌, ◌≤◌, pos, ◌+ℤ◌, ◌≤ℤ◌, nat_abs, inl, inr, mul_assoc, mul_comm, add-mul, mul-suc, arith, rules, lit<}
 use Rattle.std.proofs.lemmas.Nat.{mul-le}
 use Rattle.std.proofs.lemmas.Int.{ints}
 use Rattle.std.proofs.lemmas.Bool.{cases_lt}
@@ -24,6 +24,10 @@ nearest_below a b limit z l = elim (cases_lt limit (nearest_ℕ a b)) [
       absurd (omega (arith, mul-suc b limit, mul_comm b limit, add-mul (2 * limit) 1 b, mul_assoc 2 limit b))
   | inr h ↦ h
 ]
+
+-- the pressure in the stack is 40000 to 120000 Pa
+pub pressure_range : (q : Quantities) → Ranged q → (pos 0 ≤ℤ stack_pressure q) × (stack_pressure q ≤ℤ pos 120000)
+pressure_range q r = (omega (arith, ints), omega (arith, ints))
 
 -- a product of two numbers up to h and m, divided
 scaled : (w k d h m limit : ℕ) → 0 < d → w ≤ h → k ≤ m → 2 * (h * m) < (2 * limit + 1) * d → nearest_ℕ (w * k) d ≤ limit
@@ -84,10 +88,9 @@ module _ (span : Span) (s : StackSettings) (q : Quantities) (r : Ranged q) where
       let m = mul-le (2 * l + 1) 2330 (2 * l + 1) t (omega arith) g in
       nearest_below _ t l (omega arith) (omega (arith, (chain span).second))
 
-  -- the pressure in the stack is 40000 to 120000 Pa
   w3_high : w3 span s q ≤ (limits span).of_w3
   unfolding at_standard_of
-  w3_high = scaled _ _ 101325 _ 120000 _ (lit< tt) w2_high (omega (arith, ints)) (chain span).third
+  w3_high = let p = pressure_range q r in scaled _ _ 101325 _ 120000 _ (lit< tt) w2_high (omega (arith, ints)) (chain span).third
 
   w4_high : w4 span s q ≤ (limits span).of_w3
   w4_high = on_basis_high s.basis _ _ _ w3_high (chain span).fourth
@@ -113,7 +116,7 @@ module _ (span : Span) (s : StackSettings) (m : Means) (v : ℕ) where
   at_zero_fits e = rw e (fits _ 2730 _ 2730 (w1_high span s m.quantities r) (omega arith) (chain span).fits_w1)
 
   pub at_standard_fits : v ≡ w2 span s m.quantities → v * nat_abs (stack_pressure m.quantities) < 18446744073709551616
-  at_standard_fits e = let p = r in rw e (fits _ _ _ 120000 (w2_high span s m.quantities r) (omega (arith, ints)) (chain span).fits_w2)
+  at_standard_fits e = let p = pressure_range m.quantities r in rw e (fits _ _ _ 120000 (w2_high span s m.quantities r) (omega (arith, ints)) (chain span).fits_w2)
 
   pub on_basis_fits : v ≡ w3 span s m.quantities → v * (10000 - m.quantities.moisture.0) < 18446744073709551616
   on_basis_fits e = rw e (fits _ _ _ 10000 (w3_high span s m.quantities r) (omega arith) (chain span).fits_w3)

@@ -3,6 +3,8 @@ ghost use Rattle.std.specs.Prelude.{◌≡◌, Some};
 ghost use Rattle.calendar.specs.Faults.{fault_text};
 ghost use Rattle.stack.specs.Marks.{valid, letter_of, mark_of, fault_number};
 
+// The call that holds the laws of marks is found here too.
+pub use crate::held_laws::mark_laws;
 use std::error::Error;
 use std::fmt;
 use std::fmt::{Display, Formatter, Write};
