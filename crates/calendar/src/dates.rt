@@ -132,7 +132,7 @@ impl Display for Date {
 
     ghost output = { λ d. Some (date_text d) };
 
-    // Digit by digit: `{:02}` and a month that prints itself take three times as long.
+    // Digit by digit: with `{:02}`, and a month that prints itself, a writer of the caller's own gets dates three times as slowly.
     fn fmt<W: Write>(&self, f: &mut Formatter<W>) -> Result<(), fmt::Error> {
         let year = self.year;
         write!(
